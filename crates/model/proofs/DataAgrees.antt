@@ -1,0 +1,164 @@
+-- A data set fits exactly where its checks pass, and a refusal of it holds as the table says. Assumes nothing.
+use Prim.Native.Nat.{ℕ, suc, _+_, _-_, _*_, _≤_, _<_}
+use mathlib.Core.Path.{_≡_, refl, sym, _∙_}
+use mathlib.Core.Logic.{_⊎_, inl, inr, _↔_}
+use native.Mathlib.Omega.{arith}
+use lib.ListN.{length}
+use Rattle.model.specs.Tests.{Is, _and_, non, pick, _==_, _<?_}
+use Rattle.model.specs.Bytes.{Bytes, boundary}
+use Rattle.model.specs.Partitions.{Disjoint, Complete}
+use Rattle.model.specs.Layout.{Plan, planOf, target, totality, suppliedRegion}
+use Rattle.model.specs.DataSets.{DataSet, dataOf, NONE, pieces, size, entry, entryFits, entriesCheck, pieceBytes, suppliedBit, supplied, suppliedDisjoint, suppliedComplete, padBitsClear, suppliedTrue, framed, dataCheck}
+use Rattle.model.specs.PlainData.{Framed, EntryRight, SuppliedRight, Fits}
+use Rattle.model.specs.GivenWhen.{GivenWhen}
+use Rattle.model.specs.declared.Refusal.{Refusal}
+use Rattle.model.specs.declared.Outcome.the-variants.{Pass, Refuse}
+use Rattle.model.proofs.Tests.{lacks, refuted, both, pair, implied, implies, same, same!, less, less!, most, most!, which, which!, some-of, among, every-at, every-of, pick-true, pick-false, fails, split}
+use Rattle.model.proofs.Outcomes.{then-pass, passes-then, then-cases, require-pass, required, require-refuse, scan-pass, passes-scan, scan-refuse}
+
+module _ (P : Plan) (d : Bytes) where
+  frame-plainly : Is (framed P d) → Framed P d
+  unfolding framed
+  frame-plainly h =
+      let h1 = both h in
+      let h2 = both (h1 .1) in
+      let h3 = both (h2 .1) in
+      let h4 = both (h3 .1) in
+      let h5 = both (h4 .1) in
+      let h6 = both (h5 .1) in
+      let h7 = both (h6 .1) in
+      let h8 = both (h7 .1) in
+      let h9 = both (h8 .1) in
+      let h10 = both (h9 .1) in
+      record {
+        some-byte = most (h1 .0);
+        edition = same (h2 .0);
+        sections-end = λ n lt. most (both (every-at 4 _ (h3 .0) n lt) .1);
+        nothing-after = same (h4 .0);
+        one-piece-count = same (h5 .0);
+        piece-count = (most (h6 .0), most (h7 .0));
+        size-each = same (h8 .0);
+        sizes = λ r lt. most (every-at _ _ (h9 .0) r lt);
+        entry-each = same (h10 .0);
+        member-bytes = same (h10 .1);
+      }
+
+  test-frame : Framed P d → Is (framed P d)
+  unfolding framed
+  test-frame f =
+      pair (most! (f .some-byte)) (pair (same! (f .edition))
+      (pair (every-of 4 _ (λ n lt. pair (most! (begins n (f .sections-end n lt))) (most! (f .sections-end n lt)))) (pair (same! (f .nothing-after))
+      (pair (same! (f .one-piece-count)) (pair (most! (f .piece-count .0)) (pair (most! (f .piece-count .1))
+      (pair (same! (f .size-each)) (pair (every-of _ _ (λ r lt. most! (f .sizes r lt)))
+      (pair (same! (f .entry-each)) (same! (f .member-bytes)))))))))))
+    where
+      begins : (n : ℕ) → boundary d (suc n) ≤ length d → boundary d n + 2 ≤ length d
+      begins n h = unfold boundary in omega arith
+
+  pub frame-fits : Is (framed P d) ↔ Framed P d
+  frame-fits = (frame-plainly, test-frame)
+
+module _ (P : Plan) (D : DataSet) where
+  pub entry-fits : (m k : ℕ) → Is (entryFits P D m k) ↔ EntryRight P D m k
+  unfolding entryFits
+  entry-fits m k = (λ h. go (split (entry P D m k == NONE)) h, back)
+    where
+      go : Is (entry P D m k == NONE) ⊎ Is (non (entry P D m k == NONE)) →
+          Is (pick (entry P D m k == NONE) (totality P m == 0) (entry P D m k <? size D (target P m))) → EntryRight P D m k
+      go (inl e) h = inl (same e, same (sym (pick-true _ _ _ e) ∙ h))
+      go (inr e) h = inr ((λ q. lacks e (same! q)), less (sym (pick-false _ _ _ (fails e)) ∙ h))
+
+      back : EntryRight P D m k → Is (pick (entry P D m k == NONE) (totality P m == 0) (entry P D m k <? size D (target P m)))
+      back (inl w) = pick-true _ _ _ (same! (w .0)) ∙ same! (w .1)
+      back (inr w) = pick-false _ _ _ (fails (refuted (λ q. w .0 (same q)))) ∙ less! (w .1)
+
+  -- disjoint by a shared element
+  disjoint-sets : (k : ℕ) → Is (suppliedDisjoint P D k) ↔ Disjoint (supplied P D k)
+  unfolding suppliedDisjoint supplied
+  disjoint-sets k = (
+    λ h i j e a b.
+        let p : ¬ (i < j) = λ lt. shared h j i e b a lt in
+        let q : ¬ (j < i) = λ lt. shared h i j e a b lt in
+        omega arith,
+    λ dis. every-of _ _ (λ e le. every-of _ _ (λ i li. every-of _ _ (λ j lj. refuted (λ t.
+        let lj′ : j < pieces D = omega arith in
+        let eq = dis i j e (pair (less! li) (pair (less! le) (both t .0))) (pair (less! lj′) (pair (less! le) (both t .1))) in
+        omega arith)))),
+  )
+    where
+      shared : Is (suppliedDisjoint P D k) → (i j e : ℕ) → Is (supplied P D k i e) → Is (supplied P D k j e) → j < i → ⊥
+      shared h i j e a b lt =
+          lacks (every-at _ _ (every-at _ _ (every-at _ _ h e (less (both (both a .1) .0))) i (less (both a .0))) j lt)
+          (pair (both (both a .1) .1) (both (both b .1) .1))
+
+  -- complete by no missing element
+  complete-sets : (k : ℕ) → Is (suppliedComplete P D k) ↔ Complete (pieces D) (size D (suppliedRegion P k)) (supplied P D k)
+  unfolding suppliedComplete supplied
+  complete-sets k = (
+    λ h e le. let w = some-of (every-at _ _ h e le) in (w .0, w .1, pair (less! (w .1)) (pair (less! le) (w .2))),
+    λ c. every-of _ _ (λ e le. let w = c e le in among (w .0, w .1, both (both (w .2) .1) .1)),
+  )
+
+  pad-bits : (k : ℕ) → Is (padBitsClear P D k) ↔
+      ((i e : ℕ) → i < pieces D → size D (suppliedRegion P k) ≤ e → e < 8 * pieceBytes P D k → Is (suppliedBit P D k i e) → ⊥)
+  unfolding padBitsClear
+  pad-bits k = (
+    λ h i e li le lt b.
+        let t = every-at _ _ (every-at _ _ h i li) (e - size D (suppliedRegion P k)) (omega arith) in
+        let z : size D (suppliedRegion P k) + (e - size D (suppliedRegion P k)) ≡ e = omega arith in
+        lacks (rw z at t) b,
+    λ h. every-of _ _ (λ i li. every-of _ _ (λ b lb. refuted (h i (size D (suppliedRegion P k) + b) li (omega arith) (omega arith)))),
+  )
+
+  pub supplied-right : (k : ℕ) → Is (suppliedTrue P D k) ↔ SuppliedRight P D k
+  unfolding suppliedTrue
+  supplied-right k = (
+    λ h.
+        record {
+          disjoint = λ t. disjoint-sets k .0 (implied (both h .0) (which! t));
+          complete = λ t. complete-sets k .0 (implied (both (both h .1) .0) (which! t));
+          pad-bits = pad-bits k .0 (both (both h .1) .1);
+        },
+    λ s.
+        pair (implies (λ t. disjoint-sets k .1 (s .disjoint (which t))))
+        (pair (implies (λ t. complete-sets k .1 (s .complete (which t)))) (pad-bits k .1 (s .pad-bits))),
+  )
+
+-- a data set draws none of 12 to 14 exactly where it fits
+fits-plainly : (P : Plan) (d : Bytes) → dataCheck P d ≡ Pass → Fits P d
+unfolding dataCheck entriesCheck
+fits-plainly P d h =
+    let h1 = then-pass _ _ h in
+    let h2 = then-pass _ _ (h1 .1) in
+    record {
+      framed = frame-fits P d .0 (require-pass _ _ (h1 .0));
+      entries = λ m k lm lk. entry-fits P (dataOf d) m k .0 (require-pass _ _ (scan-pass _ _ (scan-pass _ _ (h2 .0) m lm) k lk));
+      supplied = λ k lk. supplied-right P (dataOf d) k .0 (require-pass _ _ (scan-pass _ _ (h2 .1) k lk));
+    }
+
+passes-data : (P : Plan) (d : Bytes) → Fits P d → dataCheck P d ≡ Pass
+unfolding dataCheck entriesCheck
+passes-data P d f =
+    passes-then (required _ _ (frame-fits P d .1 (f .framed)))
+    (passes-then
+    (passes-scan _ _ (λ m lm. passes-scan _ _ (λ k lk. required _ _ (entry-fits P (dataOf d) m k .1 (f .entries m k lm lk)))))
+    (passes-scan _ _ (λ k lk. required _ _ (supplied-right P (dataOf d) k .1 (f .supplied k lk)))))
+
+pub data-fits : (P : Plan) (d : Bytes) → (dataCheck P d ≡ Pass) ↔ Fits P d
+data-fits P d = (fits-plainly P d, passes-data P d)
+
+pub data-refuses : (p d : Bytes) (lent : ℕ) (r : Refusal) → dataCheck (planOf p) d ≡ Refuse r → GivenWhen p d lent r
+unfolding dataCheck entriesCheck
+data-refuses p d lent r h =
+    then-cases _ _ r h
+    (λ e. let f = require-refuse _ _ r e in rw (← f .1) (λ w. lacks (f .0) (frame-fits (planOf p) d .1 w)))
+    (λ framed h2. then-cases _ _ r h2
+    (λ e.
+    let w = scan-refuse _ _ r e in
+    let v = scan-refuse _ _ r (w .refuses) in
+    let f = require-refuse _ _ r (v .refuses) in
+    rw (← f .1) (w .at, v .at, refl, omega (arith, w .inside), omega (arith, v .inside), λ s. lacks (f .0) (entry-fits (planOf p) (dataOf d) (w .at) (v .at) .1 s)))
+    (λ entries e.
+    let w = scan-refuse _ _ r e in
+    let f = require-refuse _ _ r (w .refuses) in
+    rw (← f .1) (omega (arith, w .inside), λ s. lacks (f .0) (supplied-right (planOf p) (dataOf d) (w .at) .1 s))))

@@ -1,0 +1,53 @@
+-- What the final words hold: each word belongs to one node, piece and eighth, and stores the members there; nothing else is written.
+-- Assumes nothing.
+use Prim.Native.Nat.{ℕ, _+_, _*_, _/_, _%_, _≤_, _<_}
+use mathlib.Core.Path.{_≡_, sym, ap, _∙_}
+use mathlib.Core.List.{List}
+use native.Mathlib.Nat.{mul-le-mul-right, suc-mul}
+use native.Mathlib.Omega.{arith}
+use lib.Arith.{digits-div, digits-mod}
+use lib.ListN.{length, getD}
+use Rattle.model.specs.Layout.{Plan, nodeCount}
+use Rattle.model.specs.DataSets.{DataSet, pieces}
+use Rattle.model.specs.Membership.{member}
+use Rattle.model.specs.Words.{bit, holds, word}
+use Rattle.model.specs.Evaluation.{wordsNeeded, nodeWord, filledWords}
+use Rattle.model.proofs.Words.{store-length, store-inside, store-outside, word-element}
+
+-- the eight words of a node's piece stand inside those of all m nodes
+pub piece-inside : (N m j i : ℕ) → j < m → i < N → (j * N + i) * 8 + 8 ≤ m * N * 8
+piece-inside N m j i h l = omega (arith, mul-le-mul-right N h, suc-mul j N)
+
+module _ (P : Plan) (D : DataSet) where
+  -- word w of node j, piece i
+  pub node-word : (j i w : ℕ) → i < pieces D → w < 8 → nodeWord P D ((j * pieces D + i) * 8 + w) ≡ word (member P D j i) w
+  unfolding nodeWord
+  node-word j i w l h =
+      let here : ((j * pieces D + i) * 8 + w) / 8 ≡ j * pieces D + i = omega arith in
+      let node : ((j * pieces D + i) * 8 + w) / 8 / pieces D ≡ j = ap (λ (x : ℕ). x / pieces D) here ∙ digits-div j l in
+      let piece : ((j * pieces D + i) * 8 + w) / 8 % pieces D ≡ i = ap (λ (x : ℕ). x % pieces D) here ∙ digits-mod j l in
+      let eighth : ((j * pieces D + i) * 8 + w) % 8 ≡ w = omega arith in
+      rw (node, piece, eighth)
+
+  module _ (old : List ℕ) where
+    pub filled-length : length (filledWords P D old) ≡ length old
+    unfolding filledWords
+    filled-length = store-length old 0 (wordsNeeded P D) (nodeWord P D)
+
+    -- "Later words of the slice keep what they held"
+    pub filled-later : (k : ℕ) → wordsNeeded P D ≤ k → getD (filledWords P D old) k 0 ≡ getD old k 0
+    unfolding filledWords
+    filled-later k h = store-outside old 0 (wordsNeeded P D) (nodeWord P D) k (λ l r. omega arith)
+
+    -- the members of node j, piece i, and nothing else, are in its words
+    pub filled-holds : wordsNeeded P D ≤ length old → (j i e : ℕ) → j < nodeCount P → i < pieces D → e < 512
+        → holds (filledWords P D old) ((j * pieces D + i) * 8) e ≡ member P D j i e
+    unfolding filledWords holds
+    filled-holds fit j i e h l k =
+        let inside : (j * pieces D + i) * 8 + e / 64 < wordsNeeded P D = omega (arith, piece-inside (pieces D) (nodeCount P) j i h l) in
+        let from : 0 + ((j * pieces D + i) * 8 + e / 64) ≡ (j * pieces D + i) * 8 + e / 64 = omega arith in
+        ap (λ (x : ℕ). bit (getD (filledWords P D old) x 0) (e % 64)) (sym from)
+        ∙ ap (λ (x : ℕ). bit x (e % 64))
+        (store-inside old 0 (wordsNeeded P D) (nodeWord P D) ((j * pieces D + i) * 8 + e / 64) (omega arith) inside
+        ∙ node-word j i (e / 64) l (omega arith))
+        ∙ word-element (member P D j i) e

@@ -1,0 +1,54 @@
+-- What the two entry points promise, for all inputs: the contracts of `check` and `evaluate` cite these records.
+use Prim.Native.Nat.{ℕ, _+_, _*_, _/_, _≤_, _<_}
+use mathlib.Core.Path.{_≡_}
+use mathlib.Core.Logic.{_↔_}
+use mathlib.Core.List.{List}
+use mathlib.Core.Bool.{false}
+use lib.ListN.{length}
+use Rattle.model.specs.Answers.{told}
+use Rattle.model.specs.Bytes.{Bytes, body}
+use Rattle.model.specs.Layout.{planOf, statementCount, nodeCount}
+use Rattle.model.specs.Nodes.{nodeRegion}
+use Rattle.model.specs.Verdict.{verdict}
+use Rattle.model.specs.DataSets.{dataOf, pieces, size}
+use Rattle.model.specs.Membership.{member}
+use Rattle.model.specs.Words.{holds}
+use Rattle.model.specs.Evaluation.{evaluation, wordsAfter}
+use Rattle.model.specs.LoopRelations.{SymbolsBefore}
+use Rattle.model.specs.PlainPlan.{Reads, Parallelizable, Licensed, Concluded}
+use Rattle.model.specs.Legal.{Legal}
+use Rattle.model.specs.declared.Answer.{Answer}
+use Rattle.model.specs.declared.Answer.the-variants.{Accepted}
+
+-- an answer is an acceptance
+abbrev pub Accepts : Answer → Type 0
+Accepts r = (symbols nodes steps : ℕ) × (r ≡ Accepted symbols nodes steps)
+
+-- checking the plan's bytes p answers r
+pub record CheckPromise (p : Bytes) (r : Answer) : Type 0 where
+  -- number, place and counts are the verdict's
+  pub answer : told r ≡ told (verdict p)
+  -- demand 2: "A plan is accepted EXACTLY when it reads by the layout, its loops are parallelizable, each lemma step is licensed, and each
+  -- need inferred from the loops is concluded by a step"
+  pub exactly : Accepts r ↔ (Reads p × Parallelizable p × Licensed p × Concluded p)
+  -- the counts of an acceptance: symbols are the FORs and accesses, nodes and steps are records
+  pub counts :
+      (symbols nodes steps : ℕ) → r ≡ Accepted symbols nodes steps →
+      SymbolsBefore (planOf p) (statementCount (planOf p)) symbols × (nodes ≡ length (body p 4) / 4) × (steps ≡ length (body p 6) / 5)
+
+-- evaluating plan p over data set d into words that held `old` answers r and leaves `new`
+pub record EvaluationPromise (p d : Bytes) (old new : List ℕ) (r : Answer) : Type 0 where
+  -- number, place and counts are the definition's
+  pub answer : told r ≡ told (evaluation p d (length old))
+  -- the final words, every one: the old ones after a refusal, and past the nodes' words
+  pub words : new ≡ wordsAfter p d old r
+  -- demand 2: "Evaluated subregions are the sets the published operators define, no more and no less"
+  pub sets :
+      Accepts r → (j i e : ℕ) → j < nodeCount (planOf p) → i < pieces (dataOf d) → e < 512 →
+      holds new ((j * pieces (dataOf d) + i) * 8) e ≡ member (planOf p) (dataOf d) j i e
+  -- "Bits at or above the size are 0"
+  pub above-size :
+      Accepts r → (j i e : ℕ) → j < nodeCount (planOf p) → i < pieces (dataOf d) → size (dataOf d) (nodeRegion (planOf p) j) ≤ e → e < 512 →
+      holds new ((j * pieces (dataOf d) + i) * 8) e ≡ false
+  -- demand 3
+  pub legal : Accepts r → Legal p d new

@@ -1,0 +1,71 @@
+// The types that the definitions in specs/ share with the code of the other crates.
+
+// Why a plan or a data set is refused, and at which place. Behind each: number and word of the format paper.
+pub enum Refusal {
+    Truncated(usize), // 1 Short: the section, 0 for no bytes
+    UnknownEdition, // 2 Edition: place 0
+    TrailingBytes(usize), // 3 Long: the offset
+    InvalidLength(usize), // 4 Measure: the section
+    InvalidRecord(usize), // 5 Stray: section * 256 + record
+    RegionMismatch(usize), // 6 Mismatch: section * 256 + record
+    DuplicateNode(usize), // 7 Twin: the record
+    NotParallelizable(usize), // 8 Tangled: the loop's first statement
+    AssignmentCount(usize), // 9 Uneven: the number of symbols
+    UnlicensedStep(usize), // 10 Unlicensed: the step
+    UnmetNeed(usize), // 11 Unmet: the symbol
+    InvalidData, // 12 Misframed: place 0
+    InvalidEntry(usize), // 13 Dangling: map * 512 + element
+    InvalidPartition(usize), // 14 Untrue: the supplied partition
+    OutputTooSmall(usize), // 15 Narrow: the words needed
+}
+
+pub enum Answer {
+    Accepted {
+        symbols: usize,
+        nodes: usize,
+        steps: usize,
+    },
+    Refused(Refusal),
+}
+
+// What one check of several says.
+pub enum Outcome {
+    Pass,
+    Refuse(Refusal),
+}
+
+// The kinds of a loop's statements, in the order of their bytes.
+pub enum StatementKind {
+    For,
+    Load,
+    Call,
+    Copy,
+    Read,
+    Write,
+    Reduce,
+    Unknown,
+}
+
+// What a statement does to the element that it touches.
+pub enum Access {
+    Nothing,
+    Reads,
+    Writes,
+    Reduces,
+}
+
+// What a lemma step shows: SUB(x, y), DISJ(x) or COMP(x).
+pub enum Conclusion {
+    Subset,
+    Disjoint,
+    Complete,
+}
+
+// A row of the lemma table: the form of the conclusion, and which of a step's numbers are used.
+pub struct Lemma {
+    pub conclusion: Conclusion,
+    pub x: bool,
+    pub y: bool,
+    pub p: bool,
+    pub q: bool,
+}
