@@ -1,0 +1,66 @@
+-- The node of a statement's symbol, checked as the definition says. Assumes nothing.
+use Prim.Native.Nat.{ℕ, _+_, _*_, _<_}
+use mathlib.Core.Path.{_≡_, refl, sym, _∙_, ap}
+use mathlib.Core.List.{List}
+use mathlib.Core.Bool.{Bool, true, false}
+use native.Mathlib.Omega.{arith}
+use lib.ListN.{getD}
+use Rattle.model.specs.Tests.{Is, _or_, non, _==_, _<?_}
+use Rattle.model.specs.Bytes.{Bytes}
+use Rattle.model.specs.Outcomes.{require, _then_}
+use Rattle.model.specs.Layout.{Plan, statementCount, nodeCount}
+use Rattle.model.specs.Statements.{kind, opensLoop, opens, operandDefinition}
+use Rattle.model.specs.Nodes.{nodeRegion}
+use Rattle.model.specs.Needs.{hasSymbol, symbol, symbolNode, symbolRegion, assignmentCheck}
+use Rattle.model.specs.declared.StatementKind.{StatementKind}
+use Rattle.model.specs.declared.Outcome.{Outcome}
+use Rattle.model.specs.declared.Outcome.the-variants.{Pass}
+use Rattle.model.specs.declared.Refusal.{Refusal}
+use Rattle.model.specs.declared.Refusal.the-variants.{InvalidRecord, RegionMismatch}
+use Rattle.model.proofs.Tests.{less, pick-true, pick-false}
+use Rattle.plan.specs.Tables.{statementParts}
+use Rattle.plan.specs.Symbols.{RegionsKnown}
+use Rattle.plan.proofs.Tracking.{operand-most}
+use Rattle.plan.proofs.Pairs.{kind-of-plan}
+
+-- what follows a test matters only where it passes
+then-same : (t : Bool) (q : Refusal) {x y : Outcome} → (Is t → x ≡ y) → require t q then x ≡ require t q then y
+unfolding require _then_
+then-same true q h = h refl
+then-same false q h = refl
+
+module _ (P : Plan) (s : ℕ) where
+  pub opens-of-plan : {statements : Bytes} → P .statements ≡ statements → {k : StatementKind} {b : Bool}
+      → k ≡ kind (statementParts statements) s → b ≡ opensLoop k → b ≡ opens P s
+  unfolding opens
+  opens-of-plan section k e = rw (e, kind-of-plan P section s k)
+
+  -- the region of a symbol: the loop's, or that of the access's variable
+  pub loop-region : {statements : Bytes} {r : ℕ} → P .statements ≡ statements → opens P s ≡ true → r ≡ getD statements (s * 4 + 1) 0
+      → r ≡ symbolRegion P s
+  unfolding symbolRegion
+  loop-region section o r = r ∙ (ap (λ body. getD body (s * 4 + 1) 0) (sym section) ∙ sym (pick-true _ _ _ o))
+
+  pub access-region : {statements : Bytes} {operands regions : List ℕ} {o r : ℕ} → RegionsKnown P statements operands regions → s < statementCount P
+      → opens P s ≡ false → o ≡ getD operands s 0 → r ≡ getD regions o 0 → r ≡ symbolRegion P s
+  unfolding symbolRegion
+  access-region known lt e o r =
+      let earlier : operandDefinition P s < statementCount P = omega (arith, operand-most P s) in
+      rw (r, o, known .operands-are .holds s lt, known .regions-are .holds (operandDefinition P s) earlier) (sym (pick-false _ _ _ e))
+
+  -- the node of its symbol
+  pub node-of-plan : {assignments : Bytes} {n node : ℕ} → P .assignments ≡ assignments → n ≡ symbol P s → node ≡ getD assignments n 0
+      → node ≡ symbolNode P s
+  node-of-plan {n} section e h = h ∙ (ap (λ body. getD body n 0) (sym section) ∙ ap (λ k. getD (P .assignments) k 0) e)
+
+  -- a statement with no symbol, and one with a symbol
+  pub unassigned : hasSymbol P s ≡ false → assignmentCheck P s ≡ Pass
+  unfolding assignmentCheck non _or_ require _then_
+  unassigned e = rw e
+
+  pub assigned-check : hasSymbol P s ≡ true → {node nodes region at place : ℕ} (nodeRegions : List ℕ) → node ≡ symbolNode P s → nodes ≡ nodeCount P
+      → at ≡ getD nodeRegions node 0 → ((j : ℕ) → j < nodeCount P → getD nodeRegions j 0 ≡ nodeRegion P j) → region ≡ symbolRegion P s → place ≡ 6 * 256 + symbol P s
+      → require (node <? nodes) (InvalidRecord place) then require (at == region) (RegionMismatch place) ≡ assignmentCheck P s
+  unfolding assignmentCheck non _or_
+  assigned-check h table n c a holds r p =
+      rw (h, a, n, c, r, p) (then-same (symbolNode P s <? nodeCount P) _ (λ lt. rw (holds (symbolNode P s) (less lt))))

@@ -1,0 +1,46 @@
+-- By the tests of the kind and of the bound. Assumes nothing.
+use mathlib.Core.Path.{_≡_, sym, _∙_}
+use mathlib.Core.Bool.{false}
+use borrow.Author.Needs.{needs}
+use borrow.Author.Tests.{not-true, not-false, lt-ltb, le-ltb}
+use Rattle.model.specs.Tests.{_<?_, pick}
+use Rattle.model.specs.Statements.{opensLoop, accessOf, isAccess}
+use Rattle.plan.specs.Needs.{firstClaim}
+use Rattle.plan.proofs.needs.first_claim.Statement.{statement}
+use Rattle.plan.proofs.needs.first_claim.Tie as tie
+
+no-loop : (m : tie.Else1) → opensLoop (m .before .before .args .kind) ≡ false
+no-loop m = sym (m .before .opens-loop .ensures) ∙ m .if1 .left
+
+access-is : (m : tie.After-is-access) → isAccess (accessOf (m .before .before .before .before .args .kind)) ≡ m .is-access .result
+access-is m = rw (m .is-access .ensures, m .before .access-of .ensures)
+
+returns : tie.Need-returns
+unfolding firstClaim pick
+returns c = rw (sym (c .before .opens-loop .ensures) ∙ c .if1 .taken)
+
+returns-2 : tie.Need-returns-2
+unfolding firstClaim pick
+returns-2 c = rw (no-loop (c .before .before .before), access-is (c .before) ∙ not-true _ (c .if2 .taken))
+
+returns-3 : tie.Need-returns-3
+unfolding firstClaim pick _<?_
+returns-3 c =
+    rw (no-loop (c .before .before .before .before), access-is (c .before .before) ∙ not-false _ (c .before .if2 .left), lt-ltb _ _ (c .if3 .taken))
+
+returns-4 : tie.Need-returns-4
+unfolding firstClaim pick _<?_
+returns-4 c =
+    rw (no-loop (c .before .before .before .before), access-is (c .before .before) ∙ not-false _ (c .before .if2 .left), le-ltb _ _ (c .if3 .left))
+
+pub first-claim-spec : {M : Type 1} → statement M
+first-claim-spec =
+    tie.close
+    (tie.spec
+    (λ c κs. search needs)
+    returns
+    (λ c κs. search needs)
+    (λ c κs. search needs)
+    returns-2
+    returns-3
+    returns-4)

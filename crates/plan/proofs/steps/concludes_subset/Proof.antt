@@ -1,0 +1,25 @@
+-- By whether the step's numbers are those asked for; then by its row. Assumes nothing.
+use mathlib.Core.Bool.{and-true, and-false}
+use Rattle.model.specs.Tests.{_and_, _==_}
+use Rattle.model.specs.Lemmas.{concludesSubset}
+use borrow.Author.Needs.{needs}
+use Rattle.plan.proofs.RecordValues.{step-is}
+use Rattle.plan.proofs.steps.concludes_subset.Statement.{statement}
+use Rattle.plan.proofs.steps.concludes_subset.Tie as tie
+
+returns : tie.Need-returns
+unfolding concludesSubset _and_ _==_
+returns c =
+    let is = step-is (c .before .before .before .before .before .step-at .ensures) in
+    let same = rw is at (c .before .before .if1 .taken) in
+    rw (c .is-subset .ensures, c .before .lemma-row .ensures, is, same, and-true)
+
+returns-2 : tie.Need-returns-2
+unfolding concludesSubset _and_ _==_
+returns-2 c =
+    let other = rw (step-is (c .before .before .before .step-at .ensures)) at (c .if1 .left) in
+    rw (other, and-false)
+
+pub concludes-subset-spec : {M : Type 1} → statement M
+concludes-subset-spec =
+    tie.close (tie.spec (λ c κs. search needs) (λ c κs. search needs) (λ c κs. search needs) returns returns-2)

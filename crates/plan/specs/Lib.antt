@@ -1,0 +1,11 @@
+pub mod Parts
+pub mod Frames
+pub mod Reading
+pub mod Sections
+pub mod Tables
+pub mod Loops
+pub mod Symbols
+pub mod Steps
+pub mod Nodes
+pub mod Rows
+pub mod Needs

@@ -1,0 +1,147 @@
+// Symbols, and section 6: a node for each, of its region.
+use crate::bytes::byte_at;
+use crate::kinds::access_of;
+use crate::kinds::is_access;
+use crate::kinds::opens_loop;
+use crate::lookup::number_at;
+use crate::outcomes::and_then;
+use crate::outcomes::require;
+use crate::statements::kind_at;
+use model::Outcome;
+use model::Refusal;
+ghost use mathlib.Core.Path.{_≡_};
+ghost use Prim.Native.Nat.{ℕ, suc, _/_, _<_, _≤_};
+ghost use lib.ListN.{length};
+ghost use Rattle.model.specs.Tests.{pick};
+ghost use Rattle.model.specs.Outcomes.{scan};
+ghost use Rattle.model.specs.Layout.{Plan, statementCount};
+ghost use Rattle.model.specs.Needs as Needs;
+ghost use Rattle.model.specs.Needs.{hasSymbol, symbolCount, symbolRegion, assignmentCountCheck, assignmentCheck};
+ghost use Rattle.plan.specs.Tables.{statementParts};
+ghost use Rattle.plan.specs.Loops.{Within};
+ghost use Rattle.plan.specs.Symbols.{SymbolRoom, SymbolsNumbered, Numbered, RegionsKnown, AssignmentsKnown};
+
+// Whether statement s has a symbol: a FOR, or an access.
+pub fn has_symbol(statements: &[u8], s: usize) -> bool
+    requires { ⌜ s < 64 ⌝ }
+    ensures { λ r. ⌜ r ≡ hasSymbol (statementParts (now (statements .entry))) s ⌝ }
+{
+    let kind = kind_at(statements, s);
+    opens_loop(kind) | is_access(access_of(kind))
+}
+
+// The number of the next symbol after statement s, given that of the next before.
+fn next_symbol(statements: &[u8], s: usize, before: usize) -> usize
+    requires { ⌜ (s < 64) × (before ≤ s) ⌝ }
+    ensures { λ r. ⌜ r ≡ pick (hasSymbol (statementParts (now (statements .entry))) s) (suc before) before ⌝ }
+{
+    if has_symbol(statements, s) {
+        before + 1
+    } else {
+        before
+    }
+}
+
+// Numbers the symbols in the order of the statements; how many there are.
+pub fn number_symbols(statements: &[u8], symbols: &mut [usize; 64]) -> usize
+    requires { ⌜ SymbolRoom (now statements) (now symbols) ⌝ }
+    ensures { λ r. ⌜ SymbolsNumbered (now (statements .entry)) r (now (symbols .exit)) ⌝ }
+{
+    let mut count = 0;
+    let mut s = 0;
+    while s < statements.len() / 4 {
+        symbols[s] = count;
+        count = next_symbol(statements, s, count);
+        s += 1;
+    }
+    count
+}
+
+// The check before section 6: one assignment for each symbol.
+pub fn check_assignment_count(assignments: &[u8], symbols: usize) -> Outcome
+    ensures { λ r. ⌜ ((P : Plan) → P .assignments ≡ now (assignments .entry) → symbols ≡ symbolCount P → r ≡ assignmentCountCheck P) ⌝ }
+{
+    require(
+        assignments.len() == symbols,
+        Refusal::AssignmentCount(symbols),
+    )
+}
+
+// The region of the symbol of statement s: the loop's, or that of the access's variable.
+fn symbol_region(
+    statements: &[u8],
+    operands: &[usize],
+    variable_regions: &[usize],
+    s: usize,
+) -> usize
+    requires { ⌜ Within (now statements) s ⌝ }
+    ensures { λ r. ⌜ ((P : Plan) → RegionsKnown P (now (statements .entry)) (now (operands .entry)) (now («variable_regions» .entry)) → r ≡ symbolRegion P s) ⌝ }
+{
+    if opens_loop(kind_at(statements, s)) {
+        return byte_at(statements, s * 4 + 1);
+    }
+    number_at(variable_regions, number_at(operands, s))
+}
+
+// The check of the node that is assigned to the symbol of statement s, if it has one.
+fn check_assignment(
+    statements: &[u8],
+    assignments: &[u8],
+    nodes: usize,
+    node_regions: &[usize],
+    operands: &[usize],
+    variable_regions: &[usize],
+    symbol: usize,
+    s: usize,
+) -> Outcome
+    requires { ⌜ Numbered (now statements) symbol s ⌝ }
+    ensures { λ r. ⌜ ((P : Plan) → AssignmentsKnown P (now (statements .entry)) (now (assignments .entry)) nodes (now («node_regions» .entry)) (now (operands .entry)) (now («variable_regions» .entry)) → symbol ≡ Needs.symbol P s → r ≡ assignmentCheck P s) ⌝ }
+{
+    if !has_symbol(statements, s) {
+        return Outcome::Pass;
+    }
+    let node = byte_at(assignments, symbol);
+    let place = 6 * 256 + symbol;
+    let region = symbol_region(statements, operands, variable_regions, s);
+    and_then(
+        require(node < nodes, Refusal::InvalidRecord(place)),
+        require(
+            number_at(node_regions, node) == region,
+            Refusal::RegionMismatch(place),
+        ),
+    )
+}
+
+// The check of section 6, symbol by symbol.
+pub fn check_assignments(
+    statements: &[u8],
+    assignments: &[u8],
+    nodes: usize,
+    node_regions: &[usize],
+    operands: &[usize],
+    variable_regions: &[usize],
+) -> Outcome
+    requires { ⌜ length (now statements) / 4 ≤ 64 ⌝ }
+    ensures { λ r. ⌜ ((P : Plan) → AssignmentsKnown P (now (statements .entry)) (now (assignments .entry)) nodes (now («node_regions» .entry)) (now (operands .entry)) (now («variable_regions» .entry)) → r ≡ scan (assignmentCheck P) 0 (statementCount P)) ⌝ }
+{
+    let mut symbol = 0;
+    let mut s = 0;
+    while s < statements.len() / 4 {
+        match check_assignment(
+            statements,
+            assignments,
+            nodes,
+            node_regions,
+            operands,
+            variable_regions,
+            symbol,
+            s,
+        ) {
+            Outcome::Pass => {}
+            Outcome::Refuse(refusal) => return Outcome::Refuse(refusal),
+        }
+        symbol = next_symbol(statements, s, symbol);
+        s += 1;
+    }
+    Outcome::Pass
+}
