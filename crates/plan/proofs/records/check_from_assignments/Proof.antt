@@ -13,39 +13,32 @@ use Rattle.plan.proofs.assignments.check_assignments.Reads as check-ass
 use Rattle.plan.proofs.assignments.number_symbols.Reads as number-symbols-reads
 use Rattle.plan.proofs.records.check_from_steps.Reads as check-from-steps-reads
 
--- src/records.rt:56:9
 number-symbols-requires : tie.Need-number-symbols-requires
 number-symbols-requires c κs = search needs
 
--- src/records.rt:57:11
 check-assignment-count-requires : tie.Need-check-assignment-count-requires
 check-assignment-count-requires c κs = search needs
 
 enum-told : tie.Need-enum-told
 enum-told c = search needs
 
--- src/records.rt:59:25
 enum-known-refusal : tie.Need-enum-known-refusal
 enum-known-refusal c = search needs
 
--- src/records.rt:59:37
 returns : tie.Need-returns
 returns c =
     let count = c .before .before .before in
     sym (stage-refused _ (count .check-assignment-count .ensures _ refl (count .before .number-symbols .ensures .count-is _ refl)) (c .before .refusal .given .1))
 
--- src/records.rt:61:11
 check-assignments-requires : tie.Need-check-assignments-requires
 check-assignments-requires c κs = search needs
 
 enum-told-2 : tie.Need-enum-told-2
 enum-told-2 c = search needs
 
--- src/records.rt:63:25
 enum-known-refusal-2 : tie.Need-enum-known-refusal-2
 enum-known-refusal-2 c = search needs
 
--- src/records.rt:63:37
 returns-2 : tie.Need-returns-2
 returns-2 c =
     let records = c .before .before .before in
@@ -57,21 +50,18 @@ returns-2 c =
     ∙ stage-refused _ (records .check-assignments .ensures _ (assignments-known (start .pre))) (c .before .refusal2 .given .1)
     )
 
--- src/records.rt:65:122
 slice-aggregate-check-from-steps : tie.Need-slice-aggregate-check-from-steps
 slice-aggregate-check-from-steps c =
     let symbols = c .before .before .before .before .before .before .before in
     let start = symbols .before .before .before .before .before .before .before .before .before .before .before .before .before in
     sym (symbols .number-symbols .ensures .table-is (statementParts (now (start .args .statements))) refl .room)
 
--- src/records.rt:65:5
 check-from-steps-requires : tie.Need-check-from-steps-requires
 check-from-steps-requires c κs =
     let symbols = c .before .before .before .before .before .before .before in
     let start = symbols .before .before .before .before .before .before .before .before .before .before .before .before .before in
     record { statements-known = start .pre .statements-known; symbols-are = symbols .number-symbols .ensures .table-is _ refl }
 
--- src/records.rt:39:1
 returns-3 : tie.Need-returns-3
 returns-3 c =
     let records = c .before .before in

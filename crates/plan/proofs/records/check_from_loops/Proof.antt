@@ -11,36 +11,30 @@ use Rattle.plan.proofs.nodes.check_nodes.Reads as check-nodes-reads
 use Rattle.plan.proofs.parallel.check_loops.Reads as check-loops-reads
 use Rattle.plan.proofs.records.check_from_assignments.Reads as check-from-assignments-reads
 
--- src/records.rt:52:11
 check-loops-requires : tie.Need-check-loops-requires
 check-loops-requires c κs = search needs
 
 enum-told : tie.Need-enum-told
 enum-told c = search needs
 
--- src/records.rt:54:25
 enum-known-refusal : tie.Need-enum-known-refusal
 enum-known-refusal c = search needs
 
--- src/records.rt:54:37
 returns : tie.Need-returns
 returns c =
     let loops = c .before .before .before in
     let start = loops .before .before .before .before .before .before .before .before .before .before .before .before in
     sym (stage-refused _ (loops .check-loops .ensures _ (loops-known (start .pre))) (c .before .refusal .given .1))
 
--- src/records.rt:56:9
 check-nodes-requires : tie.Need-check-nodes-requires
 check-nodes-requires c κs = search needs
 
 enum-told-2 : tie.Need-enum-told-2
 enum-told-2 c = search needs
 
--- src/records.rt:60:25
 enum-known-outcome : tie.Need-enum-known-outcome
 enum-known-outcome c = search needs
 
--- src/records.rt:60:37
 returns-2 : tie.Need-returns-2
 returns-2 c =
     let nodes = c .before .before .before in
@@ -51,18 +45,15 @@ returns-2 c =
     ∙ stage-refused _ (nodes .check-nodes .ensures .outcome ∙ nodes-handed _ _ _ _ _ _ _) (c .before .outcome .given .1)
     )
 
--- src/records.rt:63:128
 slice-aggregate-check-from-assignments : tie.Need-slice-aggregate-check-from-assignments
 slice-aggregate-check-from-assignments c = search needs
 
--- src/records.rt:63:5
 check-from-assignments-requires : tie.Need-check-from-assignments-requires
 check-from-assignments-requires c κs =
     let nodes = c .before .before in
     let start = nodes .before .before .before .before .before .before .before .before .before .before .before .before .before .before .before .before .before in
     nodes-known _ _ _ _ _ _ _ (start .pre) (nodes .before .before .check-nodes .ensures .regions (nodes .enum-told2 .given .1))
 
--- src/records.rt:36:1
 returns-3 : tie.Need-returns-3
 returns-3 c =
     let nodes = c .before .before .before in

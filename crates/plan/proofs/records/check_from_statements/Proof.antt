@@ -9,39 +9,31 @@ use Rattle.plan.proofs.records.check_from_statements.Lts as lts
 use Rattle.plan.proofs.records.check_from_loops.Reads as check-from-loops-reads
 use Rattle.plan.proofs.statements.check_statements.Reads as check-statements-reads
 
--- src/records.rt:83:11
 check-statements-requires : tie.Need-check-statements-requires
 check-statements-requires c κs = search needs
 
 enum-told : tie.Need-enum-told
 enum-told c = search needs
 
--- src/records.rt:85:25
 enum-known-refusal : tie.Need-enum-known-refusal
 enum-known-refusal c = search needs
 
--- src/records.rt:85:37
 returns : tie.Need-returns
 returns c =
     sym (stage-refused _ (c .before .before .before .check-statements .ensures .outcome ∙ statements-handed _ _ _ _ _ _ _) (c .before .refusal .given .1))
 
--- src/records.rt:87:86
 slice-aggregate-check-from-loops : tie.Need-slice-aggregate-check-from-loops
 slice-aggregate-check-from-loops c = let told = c .before in sym (told .before .before .check-statements .ensures .tables (told .enum-told .given .1) .operands-are .room)
 
--- src/records.rt:87:97
 slice-aggregate-check-from-loops-2 : tie.Need-slice-aggregate-check-from-loops-2
 slice-aggregate-check-from-loops-2 c = let told = c .before .before in sym (told .before .before .check-statements .ensures .tables (told .enum-told .given .1) .regions-are .room)
 
--- src/records.rt:87:116
 slice-aggregate-check-from-loops-3 : tie.Need-slice-aggregate-check-from-loops-3
 slice-aggregate-check-from-loops-3 c = let told = c .before .before .before in sym (told .before .before .check-statements .ensures .tables (told .enum-told .given .1) .centers-are .room)
 
--- src/records.rt:87:127
 slice-aggregate-check-from-loops-4 : tie.Need-slice-aggregate-check-from-loops-4
 slice-aggregate-check-from-loops-4 c = let told = c .before .before .before .before in sym (told .before .before .check-statements .ensures .tables (told .enum-told .given .1) .loops-are .room)
 
--- src/records.rt:87:5
 check-from-loops-requires : tie.Need-check-from-loops-requires
 check-from-loops-requires c κs =
     let told = c .before .before .before .before in
@@ -51,7 +43,6 @@ check-from-loops-requires c κs =
       statement-tables = tables-handed _ _ _ _ _ _ _ (told .before .before .check-statements .ensures .tables (told .enum-told .given .1));
     }
 
--- src/records.rt:67:1
 returns-2 : tie.Need-returns-2
 returns-2 c =
     let told = c .before .before .before .before .before in

@@ -10,30 +10,25 @@ use Rattle.plan.proofs.records.check_from_steps.Lts as lts
 use Rattle.plan.proofs.needs.check_needs.Reads as check-needs-reads
 use Rattle.plan.proofs.steps.check_steps.Reads as check-steps-reads
 
--- src/records.rt:37:11
 check-steps-requires : tie.Need-check-steps-requires
 check-steps-requires c κs = search needs
 
 enum-told : tie.Need-enum-told
 enum-told c = search needs
 
--- src/records.rt:39:25
 enum-known-refusal : tie.Need-enum-known-refusal
 enum-known-refusal c = search needs
 
--- src/records.rt:39:37
 returns : tie.Need-returns
 returns c =
     let steps = c .before .before .before in
     sym (stage-refused _ (steps .check-steps .ensures ∙ steps-handed _ _ _ _ _ _ _) (c .before .refusal .given .1))
 
--- src/records.rt:41:5
 check-needs-requires : tie.Need-check-needs-requires
 check-needs-requires c κs =
     let start = c .before .before .before .before .before .before .before .before .before .before .before .before .before .before in
     needs-known _ _ _ _ _ _ _ (start .pre)
 
--- src/records.rt:21:1
 returns-2 : tie.Need-returns-2
 returns-2 c =
     let steps = c .before .before .before in

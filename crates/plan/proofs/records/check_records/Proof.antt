@@ -12,34 +12,28 @@ use Rattle.plan.proofs.records.check_from_statements.Reads as check-fro
 use Rattle.plan.proofs.regions.check_regions.Reads as check-regions-reads
 use Rattle.plan.proofs.supplied.check_supplied.Reads as check-supplied-reads
 
--- src/records.rt:103:11
 check-regions-requires : tie.Need-check-regions-requires
 check-regions-requires c κs = search needs
 
 enum-told : tie.Need-enum-told
 enum-told c = search needs
 
--- src/records.rt:105:25
 enum-known-refusal : tie.Need-enum-known-refusal
 enum-known-refusal c = search needs
 
--- src/records.rt:105:37
 returns : tie.Need-returns
 unfolding recordsCheck
 returns c = sym (stage-refused _ (c .before .before .before .check-regions .ensures ∙ regions-handed _ _ _ _ _ _ _) (c .before .refusal .given .1))
 
--- src/records.rt:107:11
 check-maps-requires : tie.Need-check-maps-requires
 check-maps-requires c κs = search needs
 
 enum-told-2 : tie.Need-enum-told-2
 enum-told-2 c = search needs
 
--- src/records.rt:109:25
 enum-known-refusal-2 : tie.Need-enum-known-refusal-2
 enum-known-refusal-2 c = search needs
 
--- src/records.rt:109:37
 returns-2 : tie.Need-returns-2
 unfolding recordsCheck
 returns-2 c =
@@ -49,18 +43,15 @@ returns-2 c =
     ∙ stage-refused _ (c .before .before .before .check-maps .ensures ∙ maps-handed _ _ _ _ _ _ _) (c .before .refusal2 .given .1)
     )
 
--- src/records.rt:111:11
 check-supplied-requires : tie.Need-check-supplied-requires
 check-supplied-requires c κs = search needs
 
 enum-told-3 : tie.Need-enum-told-3
 enum-told-3 c = search needs
 
--- src/records.rt:113:25
 enum-known-refusal-3 : tie.Need-enum-known-refusal-3
 enum-known-refusal-3 c = search needs
 
--- src/records.rt:113:37
 returns-3 : tie.Need-returns-3
 unfolding recordsCheck
 returns-3 c =
@@ -72,11 +63,9 @@ returns-3 c =
     ∙ stage-refused _ (c .before .before .before .check-supplied .ensures ∙ supplied-handed _ _ _ _ _ _ _) (c .before .refusal3 .given .1)
     )
 
--- src/records.rt:115:5
 check-from-statements-requires : tie.Need-check-from-statements-requires
 check-from-statements-requires c κs = search needs
 
--- src/records.rt:91:1
 returns-4 : tie.Need-returns-4
 unfolding recordsCheck
 returns-4 c =

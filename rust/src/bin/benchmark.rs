@@ -1,0 +1,153 @@
+//! The verified library beside the plain reference and the optimised
+//! version, in one run, as Markdown tables of times and ratios.
+#![forbid(unsafe_code)]
+
+use std::hint::black_box;
+use std::time::{Duration, Instant};
+
+use mavisglen::workload::{filed_example, largest_check, mixed, Mix, Workload};
+use mavisglen::{optimised, reference, Answer};
+
+/// Time for one pair of versions on one workload.
+const PAIR_BUDGET: Duration = Duration::from_millis(500);
+/// A batch is repeated calls long enough for the clock.
+const BATCH: Duration = Duration::from_micros(100);
+const MOST_ROUNDS: usize = 1001;
+const LEAST_ROUNDS: usize = 7;
+
+/// One version of the product.
+struct Version {
+    check: fn(&[u8]) -> Answer,
+    evaluate: fn(&[u8], &[u8], &mut [u64]) -> Answer,
+}
+
+const LIBRARY: Version = Version { check: mavisglen::check, evaluate: mavisglen::evaluate };
+const REFERENCE: Version = Version { check: reference::check, evaluate: reference::evaluate };
+const OPTIMISED: Version = Version { check: optimised::check, evaluate: optimised::evaluate };
+
+/// The library beside another version on one workload: median microseconds
+/// of both, and the median of the rounds' ratios, library to other.
+struct Times {
+    library: f64,
+    other: f64,
+    ratio: f64,
+}
+
+fn main() {
+    println!(
+        "A round times the library and one other version in turn. Times are medians of up to {MOST_ROUNDS}"
+    );
+    println!(
+        "rounds; ratios are medians of the rounds' own ratios, so that a busy machine slows both alike."
+    );
+    println!("Buffers are not cleared: each call overwrites the words that the call before left.\n");
+    table("Checking", &check_workloads(), check_times);
+    table("Evaluating (checking included)", &evaluate_workloads(), evaluate_times);
+    let nodes = growing(&[6, 12, 24, 48].map(|nodes| (nodes, 8, 256)));
+    table("Checking, by nodes", &nodes, check_times);
+    table("Evaluating, by nodes", &nodes, evaluate_times);
+    let pieces = growing(&[1, 2, 4, 8, 16].map(|pieces| (24, pieces, 256)));
+    table("Evaluating, by pieces", &pieces, evaluate_times);
+    let elements = growing(&[32, 64, 128, 256, 512].map(|elements| (24, 8, elements)));
+    table("Evaluating, by elements", &elements, evaluate_times);
+}
+
+/// All operators in turn, for these nodes, pieces and elements.
+fn growing(sizes: &[(usize, usize, usize)]) -> Vec<Workload> {
+    sizes.iter().map(|&(nodes, pieces, elements)| mixed(Mix::AllInTurn, nodes, pieces, elements)).collect()
+}
+
+fn check_workloads() -> Vec<Workload> {
+    vec![
+        filed_example(),
+        mixed(Mix::AllInTurn, 16, 4, 128),
+        mixed(Mix::AllInTurn, 48, 16, 512),
+        largest_check(),
+    ]
+}
+
+fn evaluate_workloads() -> Vec<Workload> {
+    let mut workloads = vec![filed_example(), mixed(Mix::AllInTurn, 16, 4, 128)];
+    workloads.extend(Mix::ALL.iter().map(|&mix| mixed(mix, 48, 16, 512)));
+    workloads
+}
+
+/// Times the library against both other versions on each workload.
+fn table(title: &str, workloads: &[Workload], times: fn(&Workload, &Version) -> Times) {
+    println!("### {title}\n");
+    println!(
+        "| input | library, µs | reference, µs | optimised, µs | reference / library | library / optimised |"
+    );
+    println!("|---|---:|---:|---:|---:|---:|");
+    for workload in workloads {
+        let (plain, fast) = (times(workload, &REFERENCE), times(workload, &OPTIMISED));
+        println!(
+            "| {} | {:.3} | {:.2} | {:.3} | {:.1} | {:.2} |",
+            workload.name,
+            fast.library,
+            plain.other,
+            fast.other,
+            1.0 / plain.ratio,
+            fast.ratio
+        );
+    }
+    println!();
+}
+
+fn check_times(workload: &Workload, other: &Version) -> Times {
+    let answers = [LIBRARY.check, other.check].map(|check| check(&workload.plan));
+    assert!(answers[0].is_accepted() && answers[0] == answers[1], "{}: {answers:?}", workload.name);
+    measure([LIBRARY.check, other.check].map(|check| move || check(black_box(&workload.plan))))
+}
+
+fn evaluate_times(workload: &Workload, other: &Version) -> Times {
+    let mut expected: Option<Vec<u64>> = None;
+    measure([LIBRARY.evaluate, other.evaluate].map(|evaluate| {
+        let mut words = vec![!0; workload.words];
+        let answer = evaluate(&workload.plan, &workload.data, &mut words);
+        assert!(answer.is_accepted(), "{}: {answer:?}", workload.name);
+        assert_eq!(words, *expected.get_or_insert_with(|| words.clone()), "{}", workload.name);
+        move || evaluate(black_box(&workload.plan), black_box(&workload.data), black_box(&mut words))
+    }))
+}
+
+/// Rounds of both calls, the library's first, until the time is used up.
+fn measure<F: FnMut() -> Answer>(mut calls: [F; 2]) -> Times {
+    let batches = calls.each_mut().map(batch_size);
+    let mut rounds: Vec<[f64; 2]> = Vec::new();
+    let start = Instant::now();
+    while rounds.len() < LEAST_ROUNDS || (rounds.len() < MOST_ROUNDS && start.elapsed() < PAIR_BUDGET) {
+        rounds.push(std::array::from_fn(|version| {
+            let batch = batches[version];
+            timed(&mut calls[version], batch).as_secs_f64() * 1e6 / f64::from(batch)
+        }));
+    }
+    Times {
+        library: median(&rounds, |round| round[0]),
+        other: median(&rounds, |round| round[1]),
+        ratio: median(&rounds, |round| round[0] / round[1]),
+    }
+}
+
+fn timed(call: &mut impl FnMut() -> Answer, batch: u32) -> Duration {
+    let start = Instant::now();
+    for _ in 0..batch {
+        black_box(call());
+    }
+    start.elapsed()
+}
+
+/// Calls that together last about as long as a batch should.
+fn batch_size(call: &mut impl FnMut() -> Answer) -> u32 {
+    let mut batch = 1;
+    while batch < 1 << 20 && timed(call, batch) < BATCH {
+        batch *= 2;
+    }
+    batch
+}
+
+fn median(rounds: &[[f64; 2]], value: impl Fn(&[f64; 2]) -> f64) -> f64 {
+    let mut values: Vec<f64> = rounds.iter().map(value).collect();
+    values.sort_by(f64::total_cmp);
+    values[values.len() / 2]
+}

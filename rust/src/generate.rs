@@ -1,0 +1,16 @@
+//! Random plans and data sets: accepted ones, near misses, damaged bytes,
+//! and plans at each limit and one past it.
+#![forbid(unsafe_code)]
+
+pub mod builder;
+pub mod case;
+pub mod data;
+pub mod derive;
+pub mod lemma;
+pub mod limits;
+pub mod loops;
+pub mod miss;
+pub mod program;
+pub mod tangled;
+
+pub use case::{Case, Generator, Origin};

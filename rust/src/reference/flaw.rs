@@ -1,0 +1,258 @@
+//! Deliberate flaws of the reference. Tests that would not notice one of
+//! them prove little, so each must be noticed.
+#![forbid(unsafe_code)]
+
+use crate::encode::limit;
+
+/// A limit of the format.
+#[derive(Clone, Copy, Debug, PartialEq, Eq)]
+pub enum Limit {
+    Regions,
+    Fields,
+    Maps,
+    Supplied,
+    Statements,
+    Variables,
+    Nodes,
+    Assignments,
+    Steps,
+    Pieces,
+    Size,
+}
+
+impl Limit {
+    pub const ALL: [Limit; 11] = [
+        Limit::Regions,
+        Limit::Fields,
+        Limit::Maps,
+        Limit::Supplied,
+        Limit::Statements,
+        Limit::Variables,
+        Limit::Nodes,
+        Limit::Assignments,
+        Limit::Steps,
+        Limit::Pieces,
+        Limit::Size,
+    ];
+
+    pub fn value(self) -> usize {
+        match self {
+            Limit::Regions => limit::REGIONS,
+            Limit::Fields => limit::FIELDS,
+            Limit::Maps => limit::MAPS,
+            Limit::Supplied => limit::SUPPLIED,
+            Limit::Statements => limit::STATEMENTS,
+            Limit::Variables => limit::VARIABLES,
+            Limit::Nodes => limit::NODES,
+            Limit::Assignments => limit::ASSIGNMENTS,
+            Limit::Steps => limit::STEPS,
+            Limit::Pieces => limit::PIECES,
+            Limit::Size => limit::SIZE,
+        }
+    }
+}
+
+/// One rule of the reference broken.
+#[derive(Clone, Copy, Debug, PartialEq, Eq)]
+pub enum Flaw {
+    // Any limit, one lower or one higher.
+    Lower(Limit),
+    Higher(Limit),
+
+    // Sections.
+    AnyEdition,
+    TrailingBytesAdmitted,
+    NoRegionAdmitted,
+    PartRecordsAdmitted,
+    LengthJudgedBeforeTruncation,
+    TruncationJudgedFirst,
+
+    // Records.
+    UnusedBytesIgnored,
+    LoadFieldUnjudged,
+    LoadFieldJudgedInTarget,
+    LoadMismatchJudgedFirst,
+    OperatorUnjudged,
+    CallRegionUnjudged,
+    ImageRegionUnjudged,
+    PreimageLikeImage,
+    SetRegionsUnjudged,
+    DuplicatesAdmitted,
+    AssignmentRegionUnjudged,
+    MissingAssignmentsAdmitted,
+    StepMayCiteItself,
+    AllStepsReadFirst,
+    CountJudgedBeforeNodes,
+
+    // Parallelizable.
+    WriteMayBeUncentered,
+    ReductionMayMeetAccess,
+    ReductionMayMeetCenteredReduction,
+    ReductionMayMeetCenteredWrite,
+    ReductionOperatorsMayDiffer,
+    UncenteredReadMayMeetWrite,
+    UncenteredReadMayMeetReduction,
+    LoadIsNoRead,
+    CopyIsUncentered,
+    EveryVariableCentered,
+    LoopsJudgedTogether,
+    LoopsJudgedAsTheyClose,
+    LoopsJudgedAfterNodes,
+
+    // Lemmas: a premise not looked at, or a shape not looked at.
+    IgnoresP(u8),
+    IgnoresQ(u8),
+    EqualFromAnything,
+    SuppliedWithoutItsFlag,
+    ReflexiveForAnything,
+    UnionByLeftOperandOnly,
+    IntersectionByLeftOperandOnly,
+    DisjointIntersectionByLeftOperandOnly,
+    DifferenceBelowItsRightOperand,
+    ImageUnderAnyMap,
+    PreimageUnderAnyMap,
+    ImageOfPreimageUnderAnyMap,
+    DisjointUnion,
+    DisjointImage,
+    DisjointDifferenceByRightOperand,
+    CompletePreimageUnderPartialMap,
+
+    // Needs.
+    CompletenessNotNeeded,
+    DisjointnessNotNeeded,
+    DisjointnessAlwaysNeeded,
+    ContainmentNotNeeded,
+    LoadNeedsNothing,
+    ReflexiveNeedMet,
+    UnlistedImageMet,
+    CopyBoundForgotten,
+
+    // Data.
+    DataEditionIgnored,
+    DataTrailingBytesAdmitted,
+    NoPiecesAdmitted,
+    NoneAdmittedInTotalMap,
+    EntryMayEqualSize,
+    NoneRefusedInPartialMap,
+    DisjointUnjudged,
+    CompleteUnjudged,
+    CompleteBySizes,
+    PadBitsIgnored,
+    PartitionsJudgedBeforeEntries,
+    SliceJudgedBeforeEntries,
+
+    // Evaluation.
+    DifferenceIgnoresRight,
+    IntersectionIsLeft,
+    UnionIsLeft,
+    EqualRemainderLast,
+    ImageOnlyOfFirstPiece,
+    PreimageIncludesNone,
+    SuppliedBitsReversed,
+    PiecesStoredBackwards,
+    PiecesBeforeNodes,
+    OldBitsKept,
+    LaterWordsCleared,
+    OnlyFirstNodeFilled,
+    WholeRegionHandedOut,
+    WritesBeforeJudgingTheSlice,
+    WantsASpareWord,
+}
+
+impl Flaw {
+    /// Every flaw there is.
+    pub fn all() -> Vec<Flaw> {
+        let mut flaws = SINGLE.to_vec();
+        flaws.extend(Limit::ALL.map(Flaw::Lower));
+        flaws.extend(Limit::ALL.map(Flaw::Higher));
+        flaws.extend([6, 8, 10, 12, 13, 14, 15, 16, 17, 18, 19, 20].map(Flaw::IgnoresP));
+        flaws.extend([6, 8, 10, 15, 19].map(Flaw::IgnoresQ));
+        flaws
+    }
+}
+
+const SINGLE: [Flaw; 83] = [
+    Flaw::AnyEdition,
+    Flaw::TrailingBytesAdmitted,
+    Flaw::NoRegionAdmitted,
+    Flaw::PartRecordsAdmitted,
+    Flaw::LengthJudgedBeforeTruncation,
+    Flaw::TruncationJudgedFirst,
+    Flaw::UnusedBytesIgnored,
+    Flaw::LoadFieldUnjudged,
+    Flaw::LoadFieldJudgedInTarget,
+    Flaw::LoadMismatchJudgedFirst,
+    Flaw::OperatorUnjudged,
+    Flaw::CallRegionUnjudged,
+    Flaw::ImageRegionUnjudged,
+    Flaw::PreimageLikeImage,
+    Flaw::SetRegionsUnjudged,
+    Flaw::DuplicatesAdmitted,
+    Flaw::AssignmentRegionUnjudged,
+    Flaw::MissingAssignmentsAdmitted,
+    Flaw::StepMayCiteItself,
+    Flaw::AllStepsReadFirst,
+    Flaw::CountJudgedBeforeNodes,
+    Flaw::WriteMayBeUncentered,
+    Flaw::ReductionMayMeetAccess,
+    Flaw::ReductionMayMeetCenteredReduction,
+    Flaw::ReductionMayMeetCenteredWrite,
+    Flaw::ReductionOperatorsMayDiffer,
+    Flaw::UncenteredReadMayMeetWrite,
+    Flaw::UncenteredReadMayMeetReduction,
+    Flaw::LoadIsNoRead,
+    Flaw::CopyIsUncentered,
+    Flaw::EveryVariableCentered,
+    Flaw::LoopsJudgedTogether,
+    Flaw::LoopsJudgedAsTheyClose,
+    Flaw::LoopsJudgedAfterNodes,
+    Flaw::EqualFromAnything,
+    Flaw::SuppliedWithoutItsFlag,
+    Flaw::ReflexiveForAnything,
+    Flaw::UnionByLeftOperandOnly,
+    Flaw::IntersectionByLeftOperandOnly,
+    Flaw::DisjointIntersectionByLeftOperandOnly,
+    Flaw::DifferenceBelowItsRightOperand,
+    Flaw::ImageUnderAnyMap,
+    Flaw::PreimageUnderAnyMap,
+    Flaw::ImageOfPreimageUnderAnyMap,
+    Flaw::DisjointUnion,
+    Flaw::DisjointImage,
+    Flaw::DisjointDifferenceByRightOperand,
+    Flaw::CompletePreimageUnderPartialMap,
+    Flaw::CompletenessNotNeeded,
+    Flaw::DisjointnessNotNeeded,
+    Flaw::DisjointnessAlwaysNeeded,
+    Flaw::ContainmentNotNeeded,
+    Flaw::LoadNeedsNothing,
+    Flaw::ReflexiveNeedMet,
+    Flaw::UnlistedImageMet,
+    Flaw::CopyBoundForgotten,
+    Flaw::DataEditionIgnored,
+    Flaw::DataTrailingBytesAdmitted,
+    Flaw::NoPiecesAdmitted,
+    Flaw::NoneAdmittedInTotalMap,
+    Flaw::EntryMayEqualSize,
+    Flaw::NoneRefusedInPartialMap,
+    Flaw::DisjointUnjudged,
+    Flaw::CompleteUnjudged,
+    Flaw::CompleteBySizes,
+    Flaw::PadBitsIgnored,
+    Flaw::PartitionsJudgedBeforeEntries,
+    Flaw::SliceJudgedBeforeEntries,
+    Flaw::DifferenceIgnoresRight,
+    Flaw::IntersectionIsLeft,
+    Flaw::UnionIsLeft,
+    Flaw::EqualRemainderLast,
+    Flaw::ImageOnlyOfFirstPiece,
+    Flaw::PreimageIncludesNone,
+    Flaw::SuppliedBitsReversed,
+    Flaw::PiecesStoredBackwards,
+    Flaw::PiecesBeforeNodes,
+    Flaw::OldBitsKept,
+    Flaw::LaterWordsCleared,
+    Flaw::OnlyFirstNodeFilled,
+    Flaw::WholeRegionHandedOut,
+    Flaw::WritesBeforeJudgingTheSlice,
+    Flaw::WantsASpareWord,
+];

@@ -1,0 +1,203 @@
+//! Plans and data sets of a chosen size, to measure with.
+#![forbid(unsafe_code)]
+
+use crate::encode::{flag, limit, node, statement, DataSet, Plan};
+use crate::filed;
+use crate::generate::builder::Builder;
+use crate::generate::data;
+use crate::generate::loops::Loop;
+use crate::generate::program::Omission;
+use crate::random::Random;
+
+/// Which operators the nodes of a plan have.
+#[derive(Clone, Copy, Debug, PartialEq, Eq)]
+pub enum Mix {
+    SetOperations,
+    Images,
+    Preimages,
+    Supplied,
+    Equal,
+    AllInTurn,
+}
+
+impl Mix {
+    pub const ALL: [Mix; 6] =
+        [Mix::SetOperations, Mix::Images, Mix::Preimages, Mix::Supplied, Mix::Equal, Mix::AllInTurn];
+
+    pub fn name(self) -> &'static str {
+        match self {
+            Mix::SetOperations => "set operations",
+            Mix::Images => "images",
+            Mix::Preimages => "preimages",
+            Mix::Supplied => "supplied",
+            Mix::Equal => "equal",
+            Mix::AllInTurn => "all in turn",
+        }
+    }
+
+    /// The kinds of its nodes, in turn.
+    fn kinds(self) -> &'static [u8] {
+        match self {
+            Mix::SetOperations => &[node::UNION, node::INTERSECTION, node::DIFFERENCE],
+            Mix::Images => &[node::IMAGE],
+            Mix::Preimages => &[node::PREIMAGE],
+            Mix::Supplied => &[node::SUPPLIED],
+            Mix::Equal => &[node::EQUAL],
+            Mix::AllInTurn => &[
+                node::UNION,
+                node::IMAGE,
+                node::INTERSECTION,
+                node::PREIMAGE,
+                node::DIFFERENCE,
+                node::SUPPLIED,
+                node::EQUAL,
+            ],
+        }
+    }
+}
+
+/// A plan with its data set, as bytes.
+pub struct Workload {
+    pub name: String,
+    pub plan: Vec<u8>,
+    pub data: Vec<u8>,
+    /// Words that evaluation writes.
+    pub words: usize,
+}
+
+impl Workload {
+    pub fn new(name: String, plan: &Plan, data: &DataSet) -> Workload {
+        let words = plan.nodes.len() * usize::from(data.pieces) * 8;
+        Workload { name, plan: plan.encode(), data: data.encode(), words }
+    }
+}
+
+/// The filed plan A over the filed data D.
+pub fn filed_example() -> Workload {
+    Workload::new("plan A over data D".to_string(), &filed::plan_a(), &filed::data_d())
+}
+
+/// A plan of one mix. A supplied or an equal node is listed but once for
+/// each partition or region, so those mixes stop at 8 and 16 nodes.
+pub fn mixed(mix: Mix, nodes: usize, pieces: usize, elements: usize) -> Workload {
+    let mut random = Random::new(11);
+    let mut builder = Builder::new(&mut random, tables(mix));
+    builder.most_nodes = nodes;
+    let plan = mixed_plan(&mut builder, mix);
+    let sizes = vec![elements as u16; plan.regions.len()];
+    let data = data::filled(&mut random, &plan, pieces as u8, sizes);
+    let name = format!("{}: {} nodes, {pieces} pieces, {elements} elements", mix.name(), plan.nodes.len());
+    Workload::new(name, &plan, &data)
+}
+
+/// As many maps and supplied partitions as there may be, all of region 0,
+/// or only those that the mix has a use for; the other regions are for
+/// equal nodes only.
+fn tables(mix: Mix) -> Plan {
+    let maps = if matches!(mix, Mix::Images | Mix::Preimages | Mix::AllInTurn) { limit::MAPS } else { 0 };
+    let supplied = match mix {
+        Mix::Supplied | Mix::AllInTurn => limit::SUPPLIED,
+        Mix::SetOperations | Mix::Images | Mix::Preimages => 2,
+        Mix::Equal => 0,
+    };
+    Plan {
+        regions: vec![[8]; limit::REGIONS],
+        maps: (0..maps as u8).map(|map| [0, 0, map % 2]).collect(),
+        supplied: (0..supplied as u8).map(|number| [0, number % 2 * flag::DISJOINT]).collect(),
+        ..Plan::default()
+    }
+}
+
+/// One loop that reads what it owns, then nodes of the mix.
+fn mixed_plan(builder: &mut Builder, mix: Mix) -> Plan {
+    let current = Loop::open(builder.random, &mut builder.plan, 0);
+    builder.assign(&current, 0, Omission::Nothing);
+    for number in 0..20 * limit::NODES {
+        let kind = mix.kinds()[number % mix.kinds().len()];
+        add_node(builder, mix, kind);
+    }
+    std::mem::take(&mut builder.plan)
+}
+
+/// A node of a kind over random operands. The first three nodes, an equal
+/// and two supplied ones, are what the others are built from: images of
+/// images would lose elements.
+fn add_node(builder: &mut Builder, mix: Mix, kind: u8) {
+    let earlier = builder.plan.nodes.len();
+    let of = builder.random.below(earlier.min(if mix == Mix::AllInTurn { 12 } else { 3 })) as u8;
+    let operand = builder.random.below(earlier) as u8;
+    let turn = earlier as u8;
+    match kind {
+        node::SUPPLIED => builder.node(kind, turn % limit::SUPPLIED as u8, 0),
+        node::EQUAL => builder.node(kind, turn % limit::REGIONS as u8, 0),
+        _ if earlier < 3 => builder.node(node::SUPPLIED, turn - 1, 0),
+        node::IMAGE | node::PREIMAGE => {
+            let map = builder.random.below(limit::MAPS) as u8;
+            builder.node(kind, of, map)
+        }
+        _ => builder.node(kind, operand, of),
+    };
+}
+
+/// The plan with most to check: 64 statements, 48 nodes, 128 steps.
+pub fn largest_check() -> Workload {
+    let mut random = Random::new(13);
+    let mut builder = Builder::new(&mut random, tables(Mix::AllInTurn));
+    builder.most_nodes = 40;
+    builder.most_steps = 100;
+    fill(&mut builder);
+    (builder.most_nodes, builder.most_steps) = (limit::NODES, limit::STEPS);
+    for _ in 0..limit::STATEMENTS / 8 {
+        let current = long_loop(&mut builder);
+        builder.assign(&current, 0, Omission::Nothing).expect("there is room for what eight loops need");
+    }
+    fill(&mut builder);
+    let plan = std::mem::take(&mut builder.plan);
+    let data = data::filled(&mut random, &plan, 4, vec![64; plan.regions.len()]);
+    let (statements, nodes, steps) = (plan.statements.len(), plan.nodes.len(), plan.steps.len());
+    Workload::new(
+        format!("largest to check: {statements} statements, {nodes} nodes, {steps} steps"),
+        &plan,
+        &data,
+    )
+}
+
+/// A loop of eight statements that reads through pointers.
+fn long_loop(builder: &mut Builder) -> Loop {
+    let plan = &mut builder.plan;
+    let mut current = Loop::open(builder.random, plan, 0);
+    current.load(plan, 1, 0, 7);
+    current.call(plan, 3, 1);
+    current.copy(plan, 2);
+    for variable in [0, 1, 2, 3] {
+        current.push_access(plan, variable, [statement::READ, 0, 0]);
+    }
+    current
+}
+
+/// Random steps by every lemma, and random nodes, until there is no room.
+fn fill(builder: &mut Builder) {
+    for lemma in (1..=20).cycle().take(2000) {
+        builder.instance(lemma, 2);
+        builder.some_node(0, 2);
+    }
+}
+
+#[cfg(test)]
+mod tests {
+    use super::*;
+    use crate::reference;
+
+    #[test]
+    fn every_workload_is_accepted() {
+        let mut workloads: Vec<Workload> =
+            Mix::ALL.iter().map(|&mix| mixed(mix, limit::NODES, 3, 70)).collect();
+        workloads.extend([filed_example(), largest_check()]);
+        for workload in workloads {
+            let mut words = vec![0; workload.words];
+            let answer = reference::evaluate(&workload.plan, &workload.data, &mut words);
+            assert!(answer.is_accepted(), "{}: {answer:?}", workload.name);
+            println!("{}: {answer:?}", workload.name);
+        }
+    }
+}
