@@ -10,7 +10,7 @@ use lib.ListN.{length, getD}
 use Rattle.model.specs.Layout.{Plan, nodeCount}
 use Rattle.model.specs.DataSets.{DataSet, pieces}
 use Rattle.model.specs.Membership.{member}
-use Rattle.model.specs.Words.{bit, holds, word}
+use Rattle.model.specs.Words.{bit, holds, word, store}
 use Rattle.model.specs.Evaluation.{wordsNeeded, nodeWord, filledWords}
 use Rattle.model.proofs.Words.{store-length, store-inside, store-outside, word-element}
 
@@ -39,15 +39,20 @@ module _ (P : Plan) (D : DataSet) where
     unfolding filledWords
     filled-later k h = store-outside old 0 (wordsNeeded P D) (nodeWord P D) k (λ l r. omega arith)
 
-    -- the members of node j, piece i, and nothing else, are in its words
-    pub filled-holds : wordsNeeded P D ≤ length old → (j i e : ℕ) → j < nodeCount P → i < pieces D → e < 512
-        → holds (filledWords P D old) ((j * pieces D + i) * 8) e ≡ member P D j i e
-    unfolding filledWords holds
-    filled-holds fit j i e h l k =
-        let inside : (j * pieces D + i) * 8 + e / 64 < wordsNeeded P D = omega (arith, piece-inside (pieces D) (nodeCount P) j i h l) in
+    -- the members of node j, piece i, and nothing else, are in its words, once the first m nodes are written
+    pub written-holds : (m : ℕ) → m * pieces D * 8 ≤ length old → (j i e : ℕ) → j < m → i < pieces D → e < 512
+        → holds (store old 0 (m * pieces D * 8) (nodeWord P D)) ((j * pieces D + i) * 8) e ≡ member P D j i e
+    unfolding holds
+    written-holds m fit j i e h l k =
+        let inside : (j * pieces D + i) * 8 + e / 64 < m * pieces D * 8 = omega (arith, piece-inside (pieces D) m j i h l) in
         let from : 0 + ((j * pieces D + i) * 8 + e / 64) ≡ (j * pieces D + i) * 8 + e / 64 = omega arith in
-        ap (λ (x : ℕ). bit (getD (filledWords P D old) x 0) (e % 64)) (sym from)
+        ap (λ (x : ℕ). bit (getD (store old 0 (m * pieces D * 8) (nodeWord P D)) x 0) (e % 64)) (sym from)
         ∙ ap (λ (x : ℕ). bit x (e % 64))
-        (store-inside old 0 (wordsNeeded P D) (nodeWord P D) ((j * pieces D + i) * 8 + e / 64) (omega arith) inside
+        (store-inside old 0 (m * pieces D * 8) (nodeWord P D) ((j * pieces D + i) * 8 + e / 64) (omega arith) inside
         ∙ node-word j i (e / 64) l (omega arith))
         ∙ word-element (member P D j i) e
+
+    pub filled-holds : wordsNeeded P D ≤ length old → (j i e : ℕ) → j < nodeCount P → i < pieces D → e < 512
+        → holds (filledWords P D old) ((j * pieces D + i) * 8) e ≡ member P D j i e
+    unfolding filledWords
+    filled-holds fit j i e h l k = written-holds (nodeCount P) fit j i e h l k

@@ -143,11 +143,15 @@ sums-grow f g next m n lt =
     le-ind (λ n. f m + g m ≤ f n) (omega (arith, next m)) (λ n _ ih. omega (arith, next n)) n lt
 
 module _ (P : Plan) (D : DataSet) (F : Fit P D) where
+  -- a map's entries lie in their section
+  pub entries-there : (m : ℕ) → m < mapCount P → entryStart P D m + 2 * size D (source P m) ≤ length (D .entries)
+  unfolding entryStart
+  entries-there m lm =
+      omega (arith, F .entries-length, sums-grow (entryStart P D) (λ m. 2 * size D (source P m)) (λ m. refl) m (mapCount P) lm)
+
   -- both bytes of a map's entry, and each byte of a supplied partition's piece, are there
   pub entry-there : (m k : ℕ) → m < mapCount P → k < size D (source P m) → entryStart P D m + 2 * k + 1 < length (D .entries)
-  unfolding entryStart
-  entry-there m k lm lk =
-      omega (arith, F .entries-length, sums-grow (entryStart P D) (λ m. 2 * size D (source P m)) (λ m. refl) m (mapCount P) lm)
+  entry-there m k lm lk = omega (arith, entries-there m lm)
 
   pub member-there :
       (k i b : ℕ) → k < suppliedCount P → i < pieces D → b < pieceBytes P D k →

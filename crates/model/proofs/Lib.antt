@@ -29,3 +29,4 @@ pub mod Demand3
 pub mod Demand2Loops
 pub mod EvaluationPromise
 pub mod Demand2
+pub mod Packed

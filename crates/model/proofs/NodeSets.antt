@@ -160,7 +160,7 @@ pub data NodeView (P : Plan) (D : DataSet) (j : ℕ) : Type 0 where
   is-preimage : PreimageNode P D j → NodeView P D j
 
 module _ (P : Plan) (D : DataSet) (F : Facts P) where
-  kind-known : (j : ℕ) → j < nodeCount P → nodeKind P j < 7
+  pub kind-known : (j : ℕ) → j < nodeCount P → nodeKind P j < 7
   unfolding nodeFormed nodeFormedRows
   kind-known j lt = go (ltb (nodeKind P j) 7) refl
     where

@@ -197,6 +197,29 @@ store-pieces words at n (suc m) value =
     ap₂ (λ (l : List ℕ) (j : ℕ). set l j (value (n + m))) (store-pieces words at n m value) (add-assoc at n m)
     ∙ ap (λ (k : ℕ). store words at k value) (sym (add-suc n m))
 
+-- one word set, where the others are the values already
+pub store-one : (words : List ℕ) (at n : ℕ) (value : ℕ → ℕ) (q v : ℕ) → at + n ≤ length words → q < n → v ≡ value q
+    → ((k : ℕ) → k < n → (k ≡ q → ⊥) → getD words (at + k) 0 ≡ value k) → set words (at + q) v ≡ store words at n value
+store-one words at n value q v fit l here others =
+    is-store (set words (at + q) v) words at n value (length-set words (at + q) v) fit (λ k h. go k h (ℕ-discrete k q))
+    (λ i o. getD-set-other words (at + q) i v 0 (λ e. o (omega arith) (omega arith)))
+  where
+    go : (k : ℕ) → k < n → Dec (k ≡ q) → getD (set words (at + q) v) (at + k) 0 ≡ value k
+    go k h (yes e) =
+        ap (λ (j : ℕ). getD (set words (at + q) v) (at + j) 0) e ∙ getD-set-same words (at + q) v 0 (omega arith) ∙ here ∙ ap value (sym e)
+    go k h (no d) = getD-set-other words (at + q) (at + k) v 0 (λ e. d (omega arith)) ∙ others k h d
+
+-- a set's elements as the bits of its words, and its words as the words of its elements
+pub holds-bit : (words : List ℕ) (at w b : ℕ) → b < 64 → holds words at (w * 64 + b) ≡ bit (getD words (at + w) 0) b
+unfolding holds
+holds-bit words at w b h =
+    let q : (w * 64 + b) / 64 ≡ w = omega arith in
+    let r : (w * 64 + b) % 64 ≡ b = omega arith in
+    ap₂ (λ (x y : ℕ). bit (getD words (at + x) 0) y) q r
+
+pub word-held : (words : List ℕ) (at w : ℕ) → getD words (at + w) 0 < 2 ^ 64 → getD words (at + w) 0 ≡ word (holds words at) w
+word-held words at w h = is-word (getD words (at + w) 0) (holds words at) w h (λ b l. sym (holds-bit words at w b l))
+
 -- a set whose eight words are stored
 pub holds-stored : (words : List ℕ) (at : ℕ) (elements : ℕ → Bool) (e : ℕ) → at + 8 ≤ length words → e < 512
     → holds (store words at 8 (word elements)) at e ≡ elements e

@@ -22,3 +22,4 @@ pub mod PlainPlan
 pub mod PlainData
 pub mod GivenWhen
 pub mod Promises
+pub mod Packed

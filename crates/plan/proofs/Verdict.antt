@@ -36,7 +36,7 @@ cut p frame =
     (part p (frame .nodes + 2) (frame .assignments))
     (part p (frame .assignments + 2) (frame .steps))
 
-cut-plan : (p : Bytes) (frame : Frame) → frame ≡ frameOf p → cut p frame ≡ planOf p
+pub cut-plan : (p : Bytes) (frame : Frame) → frame ≡ frameOf p → cut p frame ≡ planOf p
 unfolding body boundary
 cut-plan p frame e = rw e
 

@@ -1,0 +1,17 @@
+-- The number is that of an answer that keeps the promise of `check`. Assumes nothing.
+use borrow.Author.Needs.{needs}
+use Rattle.abi.proofs.Exported.{exported-check}
+use Rattle.abi.proofs.mavisglen_check.Statement.{statement}
+use Rattle.abi.proofs.mavisglen_check.Tie as tie
+
+check-requires : tie.Need-check-requires
+check-requires c κs = search needs
+
+pack-requires : tie.Need-pack-requires
+pack-requires c κs = search needs
+
+returns : tie.Need-returns
+returns c = search (needs, exported-check)
+
+pub mavisglen-check-spec : {M : Type 1} → statement M
+mavisglen-check-spec = tie.close (tie.spec check-requires pack-requires returns)

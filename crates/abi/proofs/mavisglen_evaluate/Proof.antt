@@ -1,0 +1,20 @@
+-- The number is that of an answer that keeps, with the words, the promise of `evaluate`. Assumes nothing.
+use borrow.Author.Needs.{needs}
+use Rattle.abi.proofs.Exported.{exported-evaluation}
+use Rattle.abi.proofs.mavisglen_evaluate.Statement.{statement}
+use Rattle.abi.proofs.mavisglen_evaluate.Tie as tie
+
+evaluate-requires : tie.Need-evaluate-requires
+evaluate-requires c κs = search needs
+
+pack-requires : tie.Need-pack-requires
+pack-requires c κs = search needs
+
+same-length : tie.Need-same-length
+same-length c = search needs
+
+returns : tie.Need-returns
+returns c = search (needs, exported-evaluation)
+
+pub mavisglen-evaluate-spec : {M : Type 1} → statement M
+mavisglen-evaluate-spec = tie.close (tie.spec evaluate-requires pack-requires same-length returns)

@@ -1,0 +1,200 @@
+-- The stages of evaluating: what each is handed is at hand, and what it leaves is what the checks say. Assumes nothing.
+use Prim.Native.Nat.{ℕ, _+_, _-_, _*_, _/_, _≤_, _<_}
+use mathlib.Core.Path.{_≡_, refl, sym, ap, _∙_}
+use mathlib.Core.List.{List}
+use mathlib.Core.Bool.{false}
+use native.Mathlib.Nat.{mul-le-mul}
+use native.Mathlib.Omega.{arith}
+use lib.ListN.{length, getD, drop}
+use lib.Seq.{getD-take, getD-drop}
+use Rattle.model.specs.Tests.{_≤?_}
+use Rattle.model.specs.Bytes.{Bytes, u16, part, boundary, body}
+use Rattle.model.specs.Outcomes.{require, _then_, conclude}
+use Rattle.model.specs.Layout.{Plan, planOf}
+use Rattle.model.specs.Verdict.{planCheck, accepted, verdict}
+use Rattle.model.specs.DataSets.{dataOf, pieces, dataCheck}
+use Rattle.model.specs.Evaluation.{wordsNeeded, evaluationCheck, evaluation, filledWords, wordsAfter}
+use Rattle.model.specs.Promises.{EvaluationPromise}
+use Rattle.model.specs.declared.Answer.{Answer}
+use Rattle.model.specs.declared.Answer.the-variants.{Accepted, Refused}
+use Rattle.model.specs.declared.Refusal.{Refusal}
+use Rattle.model.specs.declared.Refusal.the-variants.{OutputTooSmall}
+use Rattle.model.specs.declared.Outcome.{Outcome}
+use Rattle.model.specs.declared.Outcome.the-variants.{Pass, Refuse}
+use Rattle.model.proofs.Tests.{most!, most, fails, refuted}
+use Rattle.model.proofs.Outcomes.{required, conclude-accepted}
+use Rattle.model.proofs.Fitting.{fit}
+use Rattle.model.proofs.EvaluationPromise.{evaluation-promise}
+use Rattle.plan.specs.declared.frame.Frame.{Frame}
+use Rattle.plan.specs.declared.Reading.{Reading}
+use Rattle.plan.specs.Reading.{readingOf}
+use Rattle.plan.proofs.Verdict.{cut, cut-plan, accepted-laid}
+use Rattle.model.proofs.Accepted.{limits, verdict-accepted}
+use Rattle.evaluate.specs.declared.data.DataFrame.{DataFrame}
+use Rattle.evaluate.specs.declared.data.DataReading.{DataReading}
+use Rattle.evaluate.specs.Reading.{sections, FewRecords, reading, DataGiven}
+use Rattle.evaluate.specs.Fill.{AllHanded}
+use Rattle.evaluate.specs.Stages.{Sections, DataHeld, Held, roomCheck, wordsLeft, Left, SectionsReady, PlanReady, PlanDone}
+use Rattle.evaluate.proofs.Framing.{bodies-cut}
+use Rattle.evaluate.proofs.Reading.{data-given, reading-of}
+
+-- the number of pieces is the first byte of the first body
+pub pieces-none : (d : Bytes) → u16 d 1 ≡ 0 → 0 ≡ pieces (dataOf d)
+unfolding body boundary
+pieces-none d h = let z : 1 + 2 + u16 d 1 - (1 + 2) ≡ 0 = omega arith in rw z
+
+pub pieces-first : (d : Bytes) → ¬ (u16 d 1 ≡ 0) → getD d 3 0 ≡ pieces (dataOf d)
+unfolding body boundary
+pieces-first d h =
+    let some : 0 < 1 + 2 + u16 d 1 - (1 + 2) = omega arith in
+    sym (getD-take _ (drop (1 + 2) d) 0 0 some ∙ getD-drop (1 + 2) d 0 0)
+
+few-records : {P : Plan} {maps supplied nodes : Bytes} → Sections P maps supplied nodes → FewRecords P
+few-records S = record { maps = S .limits .few-maps; supplied = S .limits .few-supplied }
+
+-- the sections that a data set is read against are the plan's
+pub few-of-sections : {regions maps supplied nodes : Bytes} → SectionsReady regions maps supplied nodes → FewRecords (sections regions maps supplied)
+few-of-sections R = let S = R .sections in record { maps = rw (S .maps-are) (S .limits .few-maps); supplied = rw (S .supplied-are) (S .limits .few-supplied) }
+
+few-nodes : {P : Plan} {maps supplied nodes : Bytes} → Sections P maps supplied nodes → length nodes / 4 ≤ 48
+few-nodes S = rw (S .nodes-are) (S .limits .few-nodes)
+
+module _ (P : Plan) {maps supplied nodes : Bytes} where
+  -- as read against these sections, so against the plan
+  pub read-as : (d : Bytes) {regions : Bytes} {r : DataReading} → regions ≡ P .regions → Sections P maps supplied nodes →
+      r ≡ reading (sections regions maps supplied) d → r ≡ reading P d
+  read-as d regions-are S read = read ∙ rw (regions-are, S .maps-are, S .supplied-are) (reading-of P d)
+
+module _ (P : Plan) {maps supplied nodes d : Bytes} where
+  -- the bodies, cut where the frame says, are the data set's
+  pub all-handed :
+      {frame : DataFrame} {entryStarts memberStarts : List ℕ} {N lent : ℕ} →
+      DataHeld P maps supplied nodes d frame entryStarts memberStarts N lent →
+      AllHanded P (dataOf d) maps supplied nodes (part d (frame .pieces + 2) (frame .sizes)) (part d (frame .sizes + 2) (frame .entries))
+      (part d (frame .entries + 2) (frame .members)) entryStarts memberStarts N lent
+  all-handed {frame} held =
+      let bodies = bodies-cut d frame (held .ends) in
+      record {
+        handed = record {
+          plan = held .sections .facts;
+          limits = held .sections .limits;
+          fit = fit P d (held .fits);
+          enough = held .enough;
+          nodes-are = held .sections .nodes-are;
+          entries-are = ap (λ D. D .entries) bodies;
+          members-are = ap (λ D. D .members) bodies;
+          pieces-are = held .pieces-are;
+          entries-begin = held .entries-begin;
+          members-begin = held .members-begin;
+        };
+        sizes-handed = record {
+          plan = held .sections .facts;
+          few = held .sections .limits .few-nodes;
+          maps-are = held .sections .maps-are;
+          supplied-are = held .sections .supplied-are;
+          nodes-are = held .sections .nodes-are;
+          sizes-are = ap (λ D. D .sizes) bodies;
+        };
+      }
+
+  module _ {r : DataReading} (held : Held P maps supplied nodes d r) where
+    pub given : DataGiven P d r
+    given = rw (held .read) (data-given P d (few-records (held .sections)) (held .fits))
+
+    module _ {N : ℕ} (counted : N ≡ pieces (dataOf d)) where
+      pub needed : length nodes / 4 * N * 8 ≡ wordsNeeded P (dataOf d)
+      needed = rw (held .sections .nodes-are, counted)
+
+      pub words-few : N < 256 → (length nodes / 4 * N ≤ 12240)
+      words-few l = mul-le-mul {n₂ = 48} {m₂ = 255} (few-nodes (held .sections)) (omega arith)
+
+      pub data-held : {lent : ℕ} → length nodes / 4 * N * 8 ≤ lent → DataHeld P maps supplied nodes d (r .frame) (r .«entry_starts») (r .«member_starts») N lent
+      data-held enough =
+          record {
+            sections = held .sections;
+            fits = held .fits;
+            ends = given .ends;
+            entries-begin = given .entries-begin;
+            members-begin = given .members-begin;
+            pieces-are = counted;
+            enough = let e = needed in omega arith;
+          }
+
+      pub room-lacking : (old : List ℕ) → length old < length nodes / 4 * N * 8
+          → Left P (roomCheck P d (length old)) d old old (Refuse (OutputTooSmall (length nodes / 4 * N * 8)))
+      unfolding require wordsLeft
+      room-lacking old few =
+          let short : (wordsNeeded P (dataOf d) ≤? length old) ≡ false = fails (refuted (λ m. let l = most m in let e = needed in absurd (omega arith))) in
+          record { checked = rw (needed, short); words = refl }
+
+      pub room-filled : (old : List ℕ) {new : List ℕ} → length nodes / 4 * N * 8 ≤ length old → new ≡ filledWords P (dataOf d) old →
+          Left P (roomCheck P d (length old)) d old new Pass
+      unfolding require wordsLeft
+      room-filled old enough filled =
+          let e = needed in
+          record { checked = sym (required _ _ (most! (omega arith))); words = filled }
+
+-- by the outcome of the data set's checks
+module _ (P : Plan) (d : Bytes) {o : Outcome} (checked : o ≡ dataCheck P d) where
+  pub data-fits : {old new : List ℕ} {outcome : Outcome} → o ≡ Pass → Left P (roomCheck P d (length old)) d old new outcome →
+      Left P (dataCheck P d then roomCheck P d (length old)) d old new outcome
+  unfolding _then_
+  data-fits pass left = rw (sym checked ∙ pass) left
+
+  pub data-refused : (old : List ℕ) {r : Refusal} → o ≡ Refuse r → Left P (dataCheck P d then roomCheck P d (length old)) d old old (Refuse r)
+  unfolding _then_ wordsLeft
+  data-refused old refused = record { checked = rw (sym checked ∙ refused); words = refl }
+
+-- the sections, cut where the frame says, are the plan's
+module _ {p : Bytes} {frame : Frame} (ready : PlanReady p frame) where
+  cut-is : cut p frame ≡ planOf p
+  cut-is = cut-plan p frame (ready .laid .places)
+
+  pub plan-regions : part p 3 (frame .regions) ≡ planOf p .regions
+  plan-regions = ap (λ P. P .regions) cut-is
+
+  pub plan-sections : Sections (planOf p) (part p (frame .regions + 2) (frame .maps)) (part p (frame .maps + 2) (frame .supplied))
+      (part p (frame .statements + 2) (frame .nodes))
+  plan-sections =
+      record {
+        facts = ready .facts;
+        limits = ready .limits;
+        maps-are = ap (λ P. P .maps) cut-is;
+        supplied-are = ap (λ P. P .supplied) cut-is;
+        nodes-are = ap (λ P. P .nodes) cut-is;
+      }
+
+-- the words that the checks leave are those after their answer
+left-after : (p d : Bytes) (old : List ℕ) (o : Outcome) {a : Answer} {symbols nodes steps : ℕ} → a ≡ Accepted symbols nodes steps →
+    wordsLeft (planOf p) d old o ≡ wordsAfter p d old (conclude o a)
+unfolding wordsLeft conclude
+left-after p d old Pass e = rw e
+left-after p d old (Refuse r) e = refl
+
+refused-check : (o : Outcome) (a : Answer) {r : Refusal} → conclude o a ≡ Refused r → (a ≡ Refused r → ⊥) → o ≡ Refuse r
+unfolding conclude
+refused-check Pass a h never = absurd (never h)
+refused-check (Refuse q) a h never = cc
+
+-- the plan that was read and accepted
+pub plan-ready : {p : Bytes} {r : Reading} {symbols nodes steps : ℕ} → r ≡ readingOf p → r .answer ≡ Accepted symbols nodes steps → PlanReady p (r .frame)
+plan-ready {p} read told =
+    let accepts = sym (ap (λ r. r .answer) read) ∙ told in
+    let known = verdict-accepted p _ _ _ accepts .0 in
+    record { laid = rw read (accepted-laid p _ _ _ accepts); facts = known .records; limits = limits p (known .layout) }
+
+-- by the verdict of the plan
+module _ (p d : Bytes) {old : List ℕ} {answer : Answer} (judged : answer ≡ verdict p) where
+  pub promise-accepted : {new : List ℕ} {symbols nodes steps : ℕ} {o : Outcome} {r : Answer} → answer ≡ Accepted symbols nodes steps →
+      PlanDone p d old new o → r ≡ conclude o answer → EvaluationPromise p d old new r
+  unfolding verdict evaluation evaluationCheck _then_
+  promise-accepted told left concluded =
+      let (passes, counts) = conclude-accepted _ _ _ _ _ (sym judged ∙ told) in
+      evaluation-promise p d old _ _ (concluded ∙ rw (left .checked, passes, told ∙ sym counts))
+      (left .words ∙ left-after p d old _ told ∙ ap (wordsAfter p d old) (sym concluded))
+
+  pub promise-refused : {r : Refusal} → answer ≡ Refused r → EvaluationPromise p d old old (Refused r)
+  unfolding verdict evaluation evaluationCheck _then_ conclude
+  promise-refused told =
+      let refused = refused-check (planCheck p) (accepted (planOf p)) (sym judged ∙ told) (λ q. let z : _≡_ {A = ℕ} 0 1 = cc in absurd (omega arith)) in
+      evaluation-promise p d old old _ (rw refused) refl

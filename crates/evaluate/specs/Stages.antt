@@ -1,0 +1,96 @@
+-- The stages of evaluating: what each is handed, and what it leaves, for every plan of which these are the sections.
+use Prim.Native.Nat.{ℕ, _≤_, _<_}
+use mathlib.Core.Path.{_≡_}
+use mathlib.Core.List.{List}
+use lib.ListN.{length, getD}
+use Rattle.model.specs.Tests.{_≤?_}
+use Rattle.model.specs.Bytes.{Bytes}
+use Rattle.model.specs.Outcomes.{require, _then_}
+use Rattle.model.specs.Layout.{Plan, planOf, mapCount, suppliedCount}
+use Rattle.model.specs.DataSets.{dataOf, pieces, entryStart, memberStart, dataCheck}
+use Rattle.model.specs.Evaluation.{wordsNeeded, filledWords}
+use Rattle.model.specs.declared.Outcome.{Outcome}
+use Rattle.model.specs.declared.Outcome.the-variants.{Pass, Refuse}
+use Rattle.model.specs.declared.Refusal.the-variants.{OutputTooSmall}
+use Rattle.model.proofs.Accepted.{Facts, Limits}
+use Rattle.plan.specs.declared.frame.Frame.{Frame}
+use Rattle.plan.specs.Frames.{Laid}
+use Rattle.evaluate.specs.declared.data.DataFrame.{DataFrame}
+use Rattle.evaluate.specs.declared.data.DataReading.{DataReading}
+use Rattle.evaluate.specs.DataParts.{frameOf, Cut}
+use Rattle.evaluate.specs.Reading.{reading}
+
+module _ (P : Plan) where
+  -- the sections of an accepted plan that the fills read
+  pub record Sections (maps supplied nodes : Bytes) : Type 0 where
+    pub facts : Facts P
+    pub limits : Limits P
+    pub maps-are : maps ≡ P .maps
+    pub supplied-are : supplied ≡ P .supplied
+    pub nodes-are : nodes ≡ P .nodes
+
+  -- a data set that fits, the ends of its sections, where entries and members begin, and words enough
+  pub record DataHeld (maps supplied nodes d : Bytes) (frame : DataFrame) (entryStarts memberStarts : List ℕ) (N lent : ℕ) : Type 0 where
+    pub sections : Sections maps supplied nodes
+    pub fits : dataCheck P d ≡ Pass
+    pub ends : frame ≡ frameOf d
+    pub entries-begin : (m : ℕ) → m < mapCount P → getD entryStarts m 0 ≡ entryStart P (dataOf d) m
+    pub members-begin : (k : ℕ) → k < suppliedCount P → getD memberStarts k 0 ≡ memberStart P (dataOf d) k
+    pub pieces-are : N ≡ pieces (dataOf d)
+    pub enough : wordsNeeded P (dataOf d) ≤ lent
+
+  -- a data set that fits, as read
+  pub record Held (maps supplied nodes d : Bytes) (r : DataReading) : Type 0 where
+    pub sections : Sections maps supplied nodes
+    pub fits : dataCheck P d ≡ Pass
+    pub read : r ≡ reading P d
+
+  -- whether words enough are lent
+  abbrev pub roomCheck : Bytes → ℕ → Outcome
+  roomCheck d lent = require (wordsNeeded P (dataOf d) ≤? lent) (OutputTooSmall (wordsNeeded P (dataOf d)))
+
+  -- the words once the checks are made: filled where they pass, else the old ones
+  unfoldable pub wordsLeft : Bytes → List ℕ → Outcome → List ℕ
+  wordsLeft d old Pass = filledWords P (dataOf d) old
+  wordsLeft d old (Refuse r) = old
+
+  -- the outcome of a check, and the words that it leaves
+  pub record Left (check : Outcome) (d : Bytes) (old new : List ℕ) (outcome : Outcome) : Type 0 where
+    pub checked : outcome ≡ check
+    pub words : new ≡ wordsLeft d old outcome
+
+pub record DataReady (maps supplied nodes d : Bytes) (frame : DataFrame) (entryStarts memberStarts : List ℕ) (N lent : ℕ) : Type 0 where
+  pub plan : Plan
+  pub held : DataHeld plan maps supplied nodes d frame entryStarts memberStarts N lent
+  pub cut : Cut (length d) frame
+
+abbrev pub DataDone : Bytes → Bytes → Bytes → Bytes → DataFrame → List ℕ → List ℕ → ℕ → List ℕ → List ℕ → Type 0
+DataDone maps supplied nodes d frame entryStarts memberStarts N old new =
+    (P : Plan) → DataHeld P maps supplied nodes d frame entryStarts memberStarts N (length old) → new ≡ filledWords P (dataOf d) old
+
+pub record Room (maps supplied nodes d : Bytes) (r : DataReading) : Type 0 where
+  pub plan : Plan
+  pub held : Held plan maps supplied nodes d r
+
+abbrev pub RoomDone : Bytes → Bytes → Bytes → Bytes → DataReading → List ℕ → List ℕ → Outcome → Type 0
+RoomDone maps supplied nodes d r old new outcome =
+    (P : Plan) → Held P maps supplied nodes d r → Left P (roomCheck P d (length old)) d old new outcome
+
+pub record SectionsReady (regions maps supplied nodes : Bytes) : Type 0 where
+  pub plan : Plan
+  pub regions-are : regions ≡ plan .regions
+  pub sections : Sections plan maps supplied nodes
+
+abbrev pub SectionsDone : Bytes → Bytes → Bytes → Bytes → Bytes → List ℕ → List ℕ → Outcome → Type 0
+SectionsDone regions maps supplied nodes d old new outcome =
+    (P : Plan) → regions ≡ P .regions → Sections P maps supplied nodes → Left P (dataCheck P d then roomCheck P d (length old)) d old new outcome
+
+-- an accepted plan, and where its sections end
+pub record PlanReady (p : Bytes) (frame : Frame) : Type 0 where
+  pub laid : Laid p frame
+  pub facts : Facts (planOf p)
+  pub limits : Limits (planOf p)
+
+abbrev pub PlanDone : Bytes → Bytes → List ℕ → List ℕ → Outcome → Type 0
+PlanDone p d old new outcome =
+    Left (planOf p) (dataCheck (planOf p) d then roomCheck (planOf p) d (length old)) d old new outcome

@@ -1,0 +1,137 @@
+// The stages of evaluating an accepted plan: its sections, the data set, the number of words, then the words themselves.
+use crate::data::DataFrame;
+use crate::data::DataReading;
+use crate::data::read_data;
+use crate::data::u16_at;
+use crate::fill::fill_all;
+use model::Outcome;
+use model::Refusal;
+use plan::bytes::byte_at;
+use plan::frame::Frame;
+ghost use mathlib.Core.Path.{_≡_};
+ghost use Prim.Native.Nat.{_<_};
+ghost use lib.ListN.{length};
+ghost use Rattle.model.specs.DataSets.{dataOf, pieces};
+ghost use Rattle.evaluate.specs.Stages.{DataReady, DataDone, Room, RoomDone, SectionsReady, SectionsDone, PlanReady, PlanDone};
+
+// The number of pieces: the first byte of the first section, 0 where it has none.
+fn piece_count(data: &[u8]) -> usize
+    ensures { λ r. ⌜ (r ≡ pieces (dataOf (now («data» .entry)))) × (r < 256) ⌝ }
+{
+    if u16_at(data, 1) == 0 {
+        0
+    } else {
+        byte_at(data, 3)
+    }
+}
+
+// Fills the words over a data set that fits, its bodies handed on.
+fn fill_data(
+    maps: &[u8],
+    supplied: &[u8],
+    nodes: &[u8],
+    data: &[u8],
+    frame: DataFrame,
+    entry_starts: &[usize],
+    member_starts: &[usize],
+    pieces: usize,
+    words: &mut [u64],
+)
+    requires { ⌜ DataReady (now maps) (now supplied) (now nodes) (now «data») frame (now «entry_starts») (now «member_starts») pieces (length (now words)) ⌝ }
+    ensures { λ _. ⌜ DataDone (now (maps .entry)) (now (supplied .entry)) (now (nodes .entry)) (now («data» .entry)) frame (now («entry_starts» .entry)) (now («member_starts» .entry)) pieces (now (words .entry)) (now (words .exit)) ⌝ }
+{
+    let sizes_start = frame.pieces + 2;
+    let sizes_end = frame.sizes;
+    let entries_start = frame.sizes + 2;
+    let entries_end = frame.entries;
+    let members_start = frame.entries + 2;
+    let members_end = frame.members;
+    fill_all(
+        words,
+        maps,
+        supplied,
+        nodes,
+        &data[sizes_start..sizes_end],
+        &data[entries_start..entries_end],
+        &data[members_start..members_end],
+        entry_starts,
+        member_starts,
+        pieces,
+    );
+}
+
+// Fills the words if enough are lent.
+fn fill_room(
+    maps: &[u8],
+    supplied: &[u8],
+    nodes: &[u8],
+    data: &[u8],
+    reading: DataReading,
+    words: &mut [u64],
+) -> Outcome
+    requires { ⌜ Room (now maps) (now supplied) (now nodes) (now «data») reading ⌝ }
+    ensures { λ r. ⌜ RoomDone (now (maps .entry)) (now (supplied .entry)) (now (nodes .entry)) (now («data» .entry)) reading (now (words .entry)) (now (words .exit)) r ⌝ }
+{
+    let pieces = piece_count(data);
+    let needed = nodes.len() / 4 * pieces * 8;
+    if words.len() < needed {
+        return Outcome::Refuse(Refusal::OutputTooSmall(needed));
+    }
+    let frame = reading.frame;
+    let entry_starts = reading.entry_starts;
+    let member_starts = reading.member_starts;
+    fill_data(
+        maps,
+        supplied,
+        nodes,
+        data,
+        frame,
+        &entry_starts,
+        &member_starts,
+        pieces,
+        words,
+    );
+    Outcome::Pass
+}
+
+// Reads the data set against the plan's sections, and fills the words if it fits.
+fn fill_sections(
+    regions: &[u8],
+    maps: &[u8],
+    supplied: &[u8],
+    nodes: &[u8],
+    data: &[u8],
+    words: &mut [u64],
+) -> Outcome
+    requires { ⌜ SectionsReady (now regions) (now maps) (now supplied) (now nodes) ⌝ }
+    ensures { λ r. ⌜ SectionsDone (now (regions .entry)) (now (maps .entry)) (now (supplied .entry)) (now (nodes .entry)) (now («data» .entry)) (now (words .entry)) (now (words .exit)) r ⌝ }
+{
+    let reading = read_data(regions, maps, supplied, data);
+    let outcome = reading.outcome;
+    match outcome {
+        Outcome::Pass => fill_room(maps, supplied, nodes, data, reading, words),
+        Outcome::Refuse(refusal) => Outcome::Refuse(refusal),
+    }
+}
+
+// The same, from the plan's bytes and the ends of its sections.
+pub fn fill_plan(plan: &[u8], frame: Frame, data: &[u8], words: &mut [u64]) -> Outcome
+    requires { ⌜ PlanReady (now plan) frame ⌝ }
+    ensures { λ r. ⌜ PlanDone (now (plan .entry)) (now («data» .entry)) (now (words .entry)) (now (words .exit)) r ⌝ }
+{
+    let regions_end = frame.regions;
+    let maps_start = frame.regions + 2;
+    let maps_end = frame.maps;
+    let supplied_start = frame.maps + 2;
+    let supplied_end = frame.supplied;
+    let nodes_start = frame.statements + 2;
+    let nodes_end = frame.nodes;
+    fill_sections(
+        &plan[3..regions_end],
+        &plan[maps_start..maps_end],
+        &plan[supplied_start..supplied_end],
+        &plan[nodes_start..nodes_end],
+        data,
+        words,
+    )
+}

@@ -1,0 +1,66 @@
+// Evaluates the plan of the file plan.bin over the data set of the file data.bin, and prints the answer and, for each symbol
+// and piece, the members.
+use evaluate::evaluate;
+use files::read_file;
+ghost use mathlib.Core.Path.{_≡_};
+ghost use lib.ListN.{length};
+ghost use Rattle.report.specs.Buffers.{planBytes, dataBytes, outputWords};
+
+// Prints the members of each symbol's pieces.
+fn print_symbols(plan: &[u8], data: &[u8], words: &[u64], symbols: usize) -> bool {
+    let mut symbol = 0;
+    while symbol < symbols {
+        if !listing::print_node(symbol, listing::assigned_node(plan, symbol), data, words) {
+            return false;
+        }
+        symbol += 1;
+    }
+    true
+}
+
+// A buffer for a plan: of a longer file, what fits gives the answer of the whole (proofs/Prefixes.antt).
+fn plan_buffer() -> [u8; 458761]
+    ensures { λ r. ⌜ (458761 ≡ length r) × (458761 ≡ planBytes) ⌝ }
+{
+    [0; 458761]
+}
+
+// A buffer for a data set, likewise.
+fn data_buffer() -> [u8; 262150]
+    ensures { λ r. ⌜ (262150 ≡ length r) × (262150 ≡ dataBytes) ⌝ }
+{
+    [0; 262150]
+}
+
+// As many words as any plan needs.
+fn output_words() -> [u64; 6144]
+    ensures { λ r. ⌜ (6144 ≡ length r) × (6144 ≡ outputWords) ⌝ }
+{
+    [0; 6144]
+}
+
+// Evaluates, and prints the report.
+fn print_report(plan: &[u8], data: &[u8]) {
+    let mut words = output_words();
+    let answer = evaluate(plan, data, &mut words);
+    let told = answers::tell(answer);
+    if !listing::print_answer(answer) {
+        os::fail(b"standard output");
+        return;
+    }
+    if !print_symbols(plan, data, &words, told.symbols) {
+        os::fail(b"standard output");
+    }
+}
+
+fn main() {
+    let mut plan = plan_buffer();
+    let plan_file = read_file(b"plan.bin", &mut plan);
+    let mut data = data_buffer();
+    let data_file = read_file(b"data.bin", &mut data);
+    if plan_file.is_read & data_file.is_read {
+        let plan_length = plan_file.length;
+        let data_length = data_file.length;
+        print_report(&plan[..plan_length], &data[..data_length]);
+    }
+}
