@@ -1,17 +1,1 @@
-pub mod Bits
-pub mod ByteOrder
-pub mod Elements
-pub mod Zeros
-pub mod Tables
-pub mod Starts
-pub mod Loops
-pub mod Framing
-pub mod Columns
-pub mod Depends
-pub mod Reading
-pub mod Piece
-pub mod Maps
-pub mod NodeFill
-pub mod NodeSizes
-pub mod AllNodes
 pub mod Stages

@@ -25,18 +25,16 @@ use Rattle.model.proofs.Tests.{most!, most, fails, refuted}
 use Rattle.model.proofs.Outcomes.{required, conclude-accepted}
 use Rattle.model.proofs.Fitting.{fit}
 use Rattle.model.proofs.EvaluationPromise.{evaluation-promise}
-use Rattle.plan.specs.declared.frame.Frame.{Frame}
 use Rattle.plan.specs.declared.Reading.{Reading}
-use Rattle.plan.specs.Reading.{readingOf}
-use Rattle.plan.proofs.Verdict.{cut, cut-plan, accepted-laid}
-use Rattle.model.proofs.Accepted.{limits, verdict-accepted}
-use Rattle.evaluate.specs.declared.data.DataFrame.{DataFrame}
-use Rattle.evaluate.specs.declared.data.DataReading.{DataReading}
-use Rattle.evaluate.specs.Reading.{sections, FewRecords, reading, DataGiven}
-use Rattle.evaluate.specs.Fill.{AllHanded}
-use Rattle.evaluate.specs.Stages.{Sections, DataHeld, Held, roomCheck, wordsLeft, Left, SectionsReady, PlanReady, PlanDone}
-use Rattle.evaluate.proofs.Framing.{bodies-cut}
-use Rattle.evaluate.proofs.Reading.{data-given, reading-of}
+use Rattle.plan.specs.Reading.{AcceptedReading}
+use Rattle.plan.proofs.Verdict.{cut, cut-plan}
+use Rattle.dataset.specs.declared.data.DataFrame.{DataFrame}
+use Rattle.dataset.specs.declared.data.DataReading.{DataReading}
+use Rattle.dataset.specs.Reading.{sections, FewRecords, reading, DataGiven}
+use Rattle.subregions.specs.Fill.{AllHanded}
+use Rattle.evaluate.specs.Stages.{Sections, DataHeld, Held, lentCheck, wordsLeft, Left, SectionsReady, PlanDone}
+use Rattle.dataset.proofs.Framing.{bodies-cut}
+use Rattle.dataset.proofs.Reading.{data-given, reading-of}
 
 -- the number of pieces is the first byte of the first body
 pub pieces-none : (d : Bytes) → u16 d 1 ≡ 0 → 0 ≡ pieces (dataOf d)
@@ -120,41 +118,41 @@ module _ (P : Plan) {maps supplied nodes d : Bytes} where
             enough = let e = needed in omega arith;
           }
 
-      pub room-lacking : (old : List ℕ) → length old < length nodes / 4 * N * 8
-          → Left P (roomCheck P d (length old)) d old old (Refuse (OutputTooSmall (length nodes / 4 * N * 8)))
+      pub words-lacking : (old : List ℕ) → length old < length nodes / 4 * N * 8
+          → Left P (lentCheck P d (length old)) d old old (Refuse (OutputTooSmall (length nodes / 4 * N * 8)))
       unfolding require wordsLeft
-      room-lacking old few =
+      words-lacking old few =
           let short : (wordsNeeded P (dataOf d) ≤? length old) ≡ false = fails (refuted (λ m. let l = most m in let e = needed in absurd (omega arith))) in
           record { checked = rw (needed, short); words = refl }
 
-      pub room-filled : (old : List ℕ) {new : List ℕ} → length nodes / 4 * N * 8 ≤ length old → new ≡ filledWords P (dataOf d) old →
-          Left P (roomCheck P d (length old)) d old new Pass
+      pub words-filled : (old : List ℕ) {new : List ℕ} → length nodes / 4 * N * 8 ≤ length old → new ≡ filledWords P (dataOf d) old →
+          Left P (lentCheck P d (length old)) d old new Pass
       unfolding require wordsLeft
-      room-filled old enough filled =
+      words-filled old enough filled =
           let e = needed in
           record { checked = sym (required _ _ (most! (omega arith))); words = filled }
 
 -- by the outcome of the data set's checks
 module _ (P : Plan) (d : Bytes) {o : Outcome} (checked : o ≡ dataCheck P d) where
-  pub data-fits : {old new : List ℕ} {outcome : Outcome} → o ≡ Pass → Left P (roomCheck P d (length old)) d old new outcome →
-      Left P (dataCheck P d then roomCheck P d (length old)) d old new outcome
+  pub data-fits : {old new : List ℕ} {outcome : Outcome} → o ≡ Pass → Left P (lentCheck P d (length old)) d old new outcome →
+      Left P (dataCheck P d then lentCheck P d (length old)) d old new outcome
   unfolding _then_
   data-fits pass left = rw (sym checked ∙ pass) left
 
-  pub data-refused : (old : List ℕ) {r : Refusal} → o ≡ Refuse r → Left P (dataCheck P d then roomCheck P d (length old)) d old old (Refuse r)
+  pub data-refused : (old : List ℕ) {r : Refusal} → o ≡ Refuse r → Left P (dataCheck P d then lentCheck P d (length old)) d old old (Refuse r)
   unfolding _then_ wordsLeft
   data-refused old refused = record { checked = rw (sym checked ∙ refused); words = refl }
 
 -- the sections, cut where the frame says, are the plan's
-module _ {p : Bytes} {frame : Frame} (ready : PlanReady p frame) where
-  cut-is : cut p frame ≡ planOf p
-  cut-is = cut-plan p frame (ready .laid .places)
+module _ {p : Bytes} {r : Reading} (ready : AcceptedReading p r) where
+  cut-is : cut p (r .frame) ≡ planOf p
+  cut-is = cut-plan p (r .frame) (ready .laid .places)
 
-  pub plan-regions : part p 3 (frame .regions) ≡ planOf p .regions
+  pub plan-regions : part p 3 (r .frame .regions) ≡ planOf p .regions
   plan-regions = ap (λ P. P .regions) cut-is
 
-  pub plan-sections : Sections (planOf p) (part p (frame .regions + 2) (frame .maps)) (part p (frame .maps + 2) (frame .supplied))
-      (part p (frame .statements + 2) (frame .nodes))
+  pub plan-sections : Sections (planOf p) (part p (r .frame .regions + 2) (r .frame .maps)) (part p (r .frame .maps + 2) (r .frame .supplied))
+      (part p (r .frame .statements + 2) (r .frame .nodes))
   plan-sections =
       record {
         facts = ready .facts;
@@ -175,13 +173,6 @@ refused-check : (o : Outcome) (a : Answer) {r : Refusal} → conclude o a ≡ Re
 unfolding conclude
 refused-check Pass a h never = absurd (never h)
 refused-check (Refuse q) a h never = cc
-
--- the plan that was read and accepted
-pub plan-ready : {p : Bytes} {r : Reading} {symbols nodes steps : ℕ} → r ≡ readingOf p → r .answer ≡ Accepted symbols nodes steps → PlanReady p (r .frame)
-plan-ready {p} read told =
-    let accepts = sym (ap (λ r. r .answer) read) ∙ told in
-    let known = verdict-accepted p _ _ _ accepts .0 in
-    record { laid = rw read (accepted-laid p _ _ _ accepts); facts = known .records; limits = limits p (known .layout) }
 
 -- by the verdict of the plan
 module _ (p d : Bytes) {old : List ℕ} {answer : Answer} (judged : answer ≡ verdict p) where

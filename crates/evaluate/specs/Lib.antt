@@ -1,12 +1,1 @@
-pub mod Elements
-pub mod DataParts
-pub mod Starts
-pub mod Framing
-pub mod MapEntries
-pub mod Columns
-pub mod SectionChecks
-pub mod Reading
-pub mod Operators
-pub mod Pieces
-pub mod Fill
 pub mod Stages

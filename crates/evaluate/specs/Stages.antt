@@ -12,13 +12,11 @@ use Rattle.model.specs.Evaluation.{wordsNeeded, filledWords}
 use Rattle.model.specs.declared.Outcome.{Outcome}
 use Rattle.model.specs.declared.Outcome.the-variants.{Pass, Refuse}
 use Rattle.model.specs.declared.Refusal.the-variants.{OutputTooSmall}
-use Rattle.model.proofs.Accepted.{Facts, Limits}
-use Rattle.plan.specs.declared.frame.Frame.{Frame}
-use Rattle.plan.specs.Frames.{Laid}
-use Rattle.evaluate.specs.declared.data.DataFrame.{DataFrame}
-use Rattle.evaluate.specs.declared.data.DataReading.{DataReading}
-use Rattle.evaluate.specs.DataParts.{frameOf, Cut}
-use Rattle.evaluate.specs.Reading.{reading}
+use Rattle.model.specs.AcceptedPlans.{Facts, Limits}
+use Rattle.dataset.specs.declared.data.DataFrame.{DataFrame}
+use Rattle.dataset.specs.declared.data.DataReading.{DataReading}
+use Rattle.dataset.specs.DataParts.{frameOf, Cut}
+use Rattle.dataset.specs.Reading.{reading}
 
 module _ (P : Plan) where
   -- the sections of an accepted plan that the fills read
@@ -46,8 +44,8 @@ module _ (P : Plan) where
     pub read : r ≡ reading P d
 
   -- whether words enough are lent
-  abbrev pub roomCheck : Bytes → ℕ → Outcome
-  roomCheck d lent = require (wordsNeeded P (dataOf d) ≤? lent) (OutputTooSmall (wordsNeeded P (dataOf d)))
+  abbrev pub lentCheck : Bytes → ℕ → Outcome
+  lentCheck d lent = require (wordsNeeded P (dataOf d) ≤? lent) (OutputTooSmall (wordsNeeded P (dataOf d)))
 
   -- the words once the checks are made: filled where they pass, else the old ones
   unfoldable pub wordsLeft : Bytes → List ℕ → Outcome → List ℕ
@@ -68,13 +66,13 @@ abbrev pub DataDone : Bytes → Bytes → Bytes → Bytes → DataFrame → List
 DataDone maps supplied nodes d frame entryStarts memberStarts N old new =
     (P : Plan) → DataHeld P maps supplied nodes d frame entryStarts memberStarts N (length old) → new ≡ filledWords P (dataOf d) old
 
-pub record Room (maps supplied nodes d : Bytes) (r : DataReading) : Type 0 where
+pub record LentReady (maps supplied nodes d : Bytes) (r : DataReading) : Type 0 where
   pub plan : Plan
   pub held : Held plan maps supplied nodes d r
 
-abbrev pub RoomDone : Bytes → Bytes → Bytes → Bytes → DataReading → List ℕ → List ℕ → Outcome → Type 0
-RoomDone maps supplied nodes d r old new outcome =
-    (P : Plan) → Held P maps supplied nodes d r → Left P (roomCheck P d (length old)) d old new outcome
+abbrev pub LentDone : Bytes → Bytes → Bytes → Bytes → DataReading → List ℕ → List ℕ → Outcome → Type 0
+LentDone maps supplied nodes d r old new outcome =
+    (P : Plan) → Held P maps supplied nodes d r → Left P (lentCheck P d (length old)) d old new outcome
 
 pub record SectionsReady (regions maps supplied nodes : Bytes) : Type 0 where
   pub plan : Plan
@@ -83,14 +81,9 @@ pub record SectionsReady (regions maps supplied nodes : Bytes) : Type 0 where
 
 abbrev pub SectionsDone : Bytes → Bytes → Bytes → Bytes → Bytes → List ℕ → List ℕ → Outcome → Type 0
 SectionsDone regions maps supplied nodes d old new outcome =
-    (P : Plan) → regions ≡ P .regions → Sections P maps supplied nodes → Left P (dataCheck P d then roomCheck P d (length old)) d old new outcome
+    (P : Plan) → regions ≡ P .regions → Sections P maps supplied nodes → Left P (dataCheck P d then lentCheck P d (length old)) d old new outcome
 
--- an accepted plan, and where its sections end
-pub record PlanReady (p : Bytes) (frame : Frame) : Type 0 where
-  pub laid : Laid p frame
-  pub facts : Facts (planOf p)
-  pub limits : Limits (planOf p)
-
+-- evaluating an accepted plan
 abbrev pub PlanDone : Bytes → Bytes → List ℕ → List ℕ → Outcome → Type 0
 PlanDone p d old new outcome =
-    Left (planOf p) (dataCheck (planOf p) d then roomCheck (planOf p) d (length old)) d old new outcome
+    Left (planOf p) (dataCheck (planOf p) d then lentCheck (planOf p) d (length old)) d old new outcome

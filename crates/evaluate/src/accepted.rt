@@ -1,18 +1,19 @@
 // The stages of evaluating an accepted plan: its sections, the data set, the number of words, then the words themselves.
-use crate::data::DataFrame;
-use crate::data::DataReading;
-use crate::data::read_data;
-use crate::data::u16_at;
-use crate::fill::fill_all;
+use dataset::data::DataFrame;
+use dataset::data::DataReading;
+use dataset::data::read_data;
+use layout::bytes::byte_at;
+use layout::bytes::u16_at;
 use model::Outcome;
 use model::Refusal;
-use plan::bytes::byte_at;
-use plan::frame::Frame;
+use plan::Reading;
+use subregions::fill::fill_all;
 ghost use mathlib.Core.Path.{_≡_};
 ghost use Prim.Native.Nat.{_<_};
 ghost use lib.ListN.{length};
 ghost use Rattle.model.specs.DataSets.{dataOf, pieces};
-ghost use Rattle.evaluate.specs.Stages.{DataReady, DataDone, Room, RoomDone, SectionsReady, SectionsDone, PlanReady, PlanDone};
+ghost use Rattle.plan.specs.Reading.{AcceptedReading};
+ghost use Rattle.evaluate.specs.Stages.{DataReady, DataDone, LentReady, LentDone, SectionsReady, SectionsDone, PlanDone};
 
 // The number of pieces: the first byte of the first section, 0 where it has none.
 fn piece_count(data: &[u8]) -> usize
@@ -60,8 +61,8 @@ fn fill_data(
     );
 }
 
-// Fills the words if enough are lent.
-fn fill_room(
+// Fills the words if enough of them are lent.
+fn fill_lent(
     maps: &[u8],
     supplied: &[u8],
     nodes: &[u8],
@@ -69,8 +70,8 @@ fn fill_room(
     reading: DataReading,
     words: &mut [u64],
 ) -> Outcome
-    requires { ⌜ Room (now maps) (now supplied) (now nodes) (now «data») reading ⌝ }
-    ensures { λ r. ⌜ RoomDone (now (maps .entry)) (now (supplied .entry)) (now (nodes .entry)) (now («data» .entry)) reading (now (words .entry)) (now (words .exit)) r ⌝ }
+    requires { ⌜ LentReady (now maps) (now supplied) (now nodes) (now «data») reading ⌝ }
+    ensures { λ r. ⌜ LentDone (now (maps .entry)) (now (supplied .entry)) (now (nodes .entry)) (now («data» .entry)) reading (now (words .entry)) (now (words .exit)) r ⌝ }
 {
     let pieces = piece_count(data);
     let needed = nodes.len() / 4 * pieces * 8;
@@ -109,16 +110,17 @@ fn fill_sections(
     let reading = read_data(regions, maps, supplied, data);
     let outcome = reading.outcome;
     match outcome {
-        Outcome::Pass => fill_room(maps, supplied, nodes, data, reading, words),
+        Outcome::Pass => fill_lent(maps, supplied, nodes, data, reading, words),
         Outcome::Refuse(refusal) => Outcome::Refuse(refusal),
     }
 }
 
-// The same, from the plan's bytes and the ends of its sections.
-pub fn fill_plan(plan: &[u8], frame: Frame, data: &[u8], words: &mut [u64]) -> Outcome
-    requires { ⌜ PlanReady (now plan) frame ⌝ }
+// The same, from the bytes of a plan that was read and accepted.
+pub fn fill_plan(plan: &[u8], reading: Reading, data: &[u8], words: &mut [u64]) -> Outcome
+    requires { ⌜ AcceptedReading (now plan) reading ⌝ }
     ensures { λ r. ⌜ PlanDone (now (plan .entry)) (now («data» .entry)) (now (words .entry)) (now (words .exit)) r ⌝ }
 {
+    let frame = reading.frame;
     let regions_end = frame.regions;
     let maps_start = frame.regions + 2;
     let maps_end = frame.maps;

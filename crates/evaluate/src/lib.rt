@@ -8,13 +8,6 @@ ghost use Rattle.model.specs.Outcomes.{conclude};
 ghost use Rattle.model.specs.Promises.{EvaluationPromise};
 
 mod accepted;
-mod data;
-mod entries;
-mod fill;
-mod operators;
-mod pieces;
-mod supplied;
-mod words;
 
 // The acceptance where the checks pass, else their refusal.
 fn conclude(outcome: Outcome, acceptance: Answer) -> Answer
@@ -31,14 +24,13 @@ pub fn evaluate(plan: &[u8], data: &[u8], words: &mut [u64]) -> Answer
     ensures { λ r. ⌜ EvaluationPromise (now (plan .entry)) (now («data» .entry)) (now (words .entry)) (now (words .exit)) r ⌝ }
 {
     let reading = read(plan);
-    let frame = reading.frame;
     let answer = reading.answer;
     match answer {
         Answer::Accepted {
             symbols: _,
             nodes: _,
             steps: _,
-        } => { conclude(fill_plan(plan, frame, data, words), answer) }
+        } => { conclude(fill_plan(plan, reading, data, words), answer) }
         Answer::Refused(refusal) => Answer::Refused(refusal),
     }
 }

@@ -1,6 +1,6 @@
 // Bytes of a plan's or a data set's sections, for every place.
-use plan::bytes::byte_at;
-use plan::bytes::u16_at;
+use layout::bytes::byte_at;
+use layout::bytes::u16_at;
 ghost use mathlib.Core.Path.{_≡_};
 ghost use Prim.Native.Nat.{_+_, _*_, _<_, _≤_};
 ghost use lib.ListN.{getD};

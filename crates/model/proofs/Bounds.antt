@@ -13,6 +13,7 @@ use Rattle.model.specs.Needs.{symbolNode, imageNode, boundBy, bound, ope
 use Rattle.model.specs.DataSets.{DataSet, leads}
 use Rattle.model.specs.Membership.{member}
 use Rattle.model.specs.Touches.{Takes, itself, loaded, called, copied}
+use Rattle.model.specs.AcceptedPlans.{Facts}
 use Rattle.model.specs.declared.StatementKind.{StatementKind}
 use Rattle.model.specs.declared.StatementKind.the-variants.{For, Load, Call, Copy}
 use Rattle.model.proofs.Tests.{falsum, pick-true}
@@ -22,7 +23,6 @@ use Rattle.model.proofs.StatementKinds.{opens-is}
 use Rattle.model.proofs.LoopsAgree.{sees-loop}
 use Rattle.model.proofs.StatementsAgree.{formed-sees}
 use Rattle.model.proofs.SymbolsAgree.{image-found, bound-at}
-use Rattle.model.proofs.Accepted.{Facts}
 use Rattle.model.proofs.Fitting.{Fit}
 use Rattle.model.proofs.NodeSets.{image-node}
 

@@ -19,11 +19,12 @@ use Rattle.model.specs.Membership.{member}
 use Rattle.model.specs.Words.{holds}
 use Rattle.model.specs.Evaluation.{wordsNeeded, evaluationCheck, evaluation, filledWords}
 use Rattle.model.specs.Legal.{subregion, LegalLoop, Legal}
+use Rattle.model.specs.AcceptedPlans.{Facts}
 use Rattle.model.specs.declared.Answer.the-variants.{Accepted}
 use Rattle.model.specs.declared.Outcome.the-variants.{Pass}
 use Rattle.model.proofs.Tests.{both, pair, one, implied, less, less!, most, most!, some-of, pick-true}
 use Rattle.model.proofs.Outcomes.{then-pass, passes-then, require-pass, required, conclude-accepted, conclude-pass}
-use Rattle.model.proofs.Accepted.{Facts, plan-accepted}
+use Rattle.model.proofs.Accepted.{plan-accepted}
 use Rattle.model.proofs.Fitting.{Fit, fit}
 use Rattle.model.proofs.NodeSets.{region-small, node-within}
 use Rattle.model.proofs.Steps.{SubsetHolds, DisjointHolds, CompleteHolds, subset-of, disjoint-of, complete-of, steps-true}

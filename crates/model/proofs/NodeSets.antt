@@ -14,10 +14,10 @@ use Rattle.model.specs.Layout.{Plan, regionCount, mapCount, suppliedCoun
 use Rattle.model.specs.Nodes.{SUPPLIED, EQUAL, UNION, INTERSECTION, DIFFERENCE, IMAGE, PREIMAGE, nodeFormedRows, nodeFormed, nodeRegionRows, nodeRegionStep, nodeRegion, nodeAgreesRows, nodeAgrees}
 use Rattle.model.specs.DataSets.{DataSet, pieces, size, leads, supplied}
 use Rattle.model.specs.Membership.{equal, operators, nodeSets, member}
+use Rattle.model.specs.AcceptedPlans.{Facts}
 use Rattle.model.proofs.Tests.{falsum, both, same, less, _also_, at-each}
 use Rattle.model.proofs.Recursion.{below-at, course-law, by-earlier}
 use Rattle.model.proofs.Partitions.{Within, subset-within, union-within, intersection-subset-left, difference-subset, image-within, preimage-within, contiguous-within}
-use Rattle.model.proofs.Accepted.{Facts}
 use Rattle.model.proofs.Fitting.{Fit}
 
 -- a node, by its kind

@@ -17,6 +17,7 @@ use Rattle.model.specs.Parallel.{loopCheck}
 use Rattle.model.specs.Nodes.{nodeCheck}
 use Rattle.model.specs.Needs.{hasSymbol, symbol, assignmentCountCheck, assignmentCheck, needCheck}
 use Rattle.model.specs.Lemmas.{stepCheck}
+use Rattle.model.specs.AcceptedPlans.{Facts, Limits}
 use Rattle.model.specs.Verdict.{regionCheck, mapCheck, suppliedCheck, recordsCheck, planCheck, accepted, verdict}
 use Rattle.model.specs.DataSets.{entriesCheck, dataCheck}
 use Rattle.model.specs.Evaluation.{evaluationCheck, evaluation}
@@ -30,7 +31,7 @@ use Rattle.model.specs.declared.Answer.the-variants.{Accepted, Refused}
 use Rattle.model.proofs.Tests.{split, fails, refuted, same, same!, pick-true, pick-false, _also_, at-each}
 use Rattle.model.proofs.Outcomes.{then-cases, then-pass, require-pass, require-refuse, scan-pass, scan-refuse}
 use Rattle.model.proofs.Answers.{told-injective}
-use Rattle.model.proofs.Accepted.{Facts, Section, section-pass, laid-out, Limits, limits, plan-accepted}
+use Rattle.model.proofs.Accepted.{Section, section-pass, laid-out, limits, plan-accepted}
 use Rattle.model.proofs.DataAgrees.{frame-fits}
 use Rattle.model.proofs.Fitting.{fit}
 

@@ -13,12 +13,12 @@ use Rattle.model.specs.Nodes.{nodeRegion}
 use Rattle.model.specs.Lemmas.{lemmas, lemmaRow, inUse, isSubset, isDisjoint, isComplete, concludesSubset, concludesDisjoint, concludesComplete, operandOf, licences, licence, stepFormed, stepLicensed}
 use Rattle.model.specs.DataSets.{DataSet, pieces, size, leads}
 use Rattle.model.specs.Membership.{equal, member}
+use Rattle.model.specs.AcceptedPlans.{Facts}
 use Rattle.model.specs.declared.Conclusion.{Conclusion}
 use Rattle.model.specs.declared.Conclusion.the-variants.{Subset, Disjoint, Complete}
 use Rattle.model.proofs.Tests.{falsum, both, either, same, less, most, which, _also_, at-each}
 use Rattle.model.proofs.Recursion.{by-earlier}
 use Rattle.model.proofs.Partitions.{subset-refl, subset-trans, union-contains-left, union-contains-right, union-least, intersection-subset-left, intersection-subset-right, intersection-greatest, difference-subset, image-monotone, preimage-monotone, image-of-preimage, subset-disjoint, intersection-disjoint-left, intersection-disjoint-right, difference-disjoint, preimage-disjoint, superset-complete, preimage-complete, contiguous-disjoint, contiguous-complete}
-use Rattle.model.proofs.Accepted.{Facts}
 use Rattle.model.proofs.Fitting.{Fit}
 use Rattle.model.proofs.NodeSets.{OneOperand, supplied-node, equal-node, union-node, intersection-node, difference-node, image-node, preimage-node}
 

@@ -11,6 +11,7 @@ pub mod Nodes
 pub mod Lemmas
 pub mod Needs
 pub mod Verdict
+pub mod AcceptedPlans
 pub mod Words
 pub mod DataSets
 pub mod Membership

@@ -4,22 +4,22 @@ use Prim.Native.Nat.{ℕ, _<_}
 use mathlib.Core.Path.{_≡_, refl}
 use mathlib.Core.List.{List, []}
 use mathlib.Core.Bool.{Bool}
-use native.Mathlib.Omega.{arith}
 use lib.ListN.{getD}
 use Rattle.model.specs.Bytes.{Bytes}
 use Rattle.model.specs.Layout.{Plan, nodeCount, statementCount}
 use Rattle.model.specs.Statements.{kind, opens, defines, accesses, loopBefore, variables, definition, operandBy, operand, operandDefinition, regionBy, variableRegion, centeredBy, centered, statementFormedBy, statementFormed, statementAgreesBy, statementAgrees, statementCheck}
-use Rattle.model.specs.Parallel.{reduces, uncentered, accessOfLoop, reducesThroughPointer}
+use Rattle.model.specs.Parallel.{reads, writes, reduces, uncentered, accessOfLoop, sameTarget, conflicts, parallelizable, loopCheck, reducesThroughPointer}
 use Rattle.model.specs.Nodes.{nodeFormedRows, nodeFormed, nodeRegionRows, nodeRegionStep, nodeRegion, nodeAgreesRows, nodeAgrees, sameNode, duplicateNode, nodeCheck}
 use Rattle.model.specs.Lemmas.{concludesSubset, concludesDisjoint, concludesComplete, operandOf, licences, licence, stepFormed, stepLicensed, stepCheck}
 use Rattle.model.specs.Needs.{hasSymbol, symbol, symbolRegion, assignmentCountCheck, assignmentCheck, imageNode, boundBy, bound, loopNeedsMet, accessNeedMet, needCheck}
 use Rattle.model.specs.Verdict.{regionCheck, mapCheck, suppliedCheck}
-use Rattle.plan.specs.Parts.{parts}
-use Rattle.model.specs.Outcomes.{scan}
+use Rattle.layout.specs.Parts.{parts}
+use Rattle.model.specs.Outcomes.{_then_, scan}
 use Rattle.plan.specs.Needs.{needParts, NeedsKnown}
 use Rattle.plan.specs.Tables.{StatementTables, statementParts}
 use Rattle.plan.specs.Steps.{stepsCheck}
-use Rattle.plan.specs.Sections.{needsCheck, SymbolsKnown, StatementsKnown, NodesKnown, regionsCheck, mapsCheck, partitionsCheck, statementsCheck, nodesCheck, fromAssignments}
+use Rattle.layout.specs.Declarations.{regionsCheck, mapsCheck, partitionsCheck}
+use Rattle.plan.specs.Sections.{needsCheck, StatementsKnown, NodesKnown, statementsCheck, loopsCheck, nodesCheck, fromAssignments}
 
 module _ (regions maps supplied statements nodes assignments steps : Bytes) where
   abbrev whole : Plan
@@ -37,9 +37,11 @@ module _ (regions maps supplied statements nodes assignments steps : Bytes) wher
   unfolding suppliedCheck
   supplied-handed = refl
 
-  pub statements-handed : statementsCheck (parts regions maps [] statements [] [] []) ≡ statementsCheck whole
-  unfolding kind opens defines variables definition operandBy operand operandDefinition regionBy variableRegion statementFormedBy statementFormed statementAgreesBy statementAgrees statementCheck
-  statements-handed = refl
+  pub loops-handed :
+      (statementsCheck (parts regions maps [] statements [] [] []) then loopsCheck (parts regions maps [] statements [] [] []))
+      ≡ (statementsCheck whole then loopsCheck whole)
+  unfolding kind opens defines accesses loopBefore variables definition operandBy operand operandDefinition regionBy variableRegion centeredBy centered statementFormedBy statementFormed statementAgreesBy statementAgrees statementCheck reads writes reduces uncentered accessOfLoop sameTarget conflicts parallelizable loopCheck
+  loops-handed = refl
 
   pub nodes-handed : nodesCheck (parts regions maps supplied [] nodes [] []) ≡ nodesCheck whole
   unfolding nodeFormedRows nodeFormed nodeRegionRows nodeRegionStep nodeRegion nodeAgreesRows nodeAgrees sameNode duplicateNode nodeCheck
@@ -79,36 +81,23 @@ module _ (regions maps supplied statements nodes assignments steps : Bytes) wher
     unfolding kind opens defines loopBefore variables definition operandBy operand operandDefinition regionBy variableRegion centeredBy centered nodeRegionRows nodeRegionStep nodeRegion
     nodes-known known node-regions =
         record {
-          statements-known =
+          few-statements = known .limits .few-statements;
+          statement-tables =
               record {
-                limits =
-                    record {
-                      regions = omega arith;
-                      maps = known .limits .maps;
-                      supplied = known .limits .supplied;
-                      statements = known .limits .statements;
-                      nodes = known .limits .nodes;
-                      assignments = known .limits .assignments;
-                      steps = known .limits .steps;
-                    };
-                statement-tables =
-                    record {
-                      operands-are = known .statement-tables .operands-are;
-                      regions-are = known .statement-tables .regions-are;
-                      centers-are = known .statement-tables .centers-are;
-                      loops-are = known .statement-tables .loops-are;
-                    };
+                operands-are = known .statement-tables .operands-are;
+                regions-are = known .statement-tables .regions-are;
+                centers-are = known .statement-tables .centers-are;
+                loops-are = known .statement-tables .loops-are;
               };
           node-regions = node-regions;
         }
 
-    pub needs-known : {symbols : List ℕ} →
-        SymbolsKnown whole operands variableRegions centers loops symbols → NeedsKnown statements operands centers loops symbols
-    unfolding kind opens defines accesses loopBefore variables definition operandBy operand operandDefinition centeredBy centered hasSymbol symbol
+    pub needs-known : {nodeRegions : List ℕ} →
+        NodesKnown whole operands variableRegions centers loops nodeRegions → NeedsKnown statements operands centers loops
+    unfolding kind opens defines loopBefore variables definition operandBy operand operandDefinition centeredBy centered
     needs-known known =
-        let tables = known .statements-known .statement-tables in
+        let tables = known .statement-tables in
         record {
-          few = known .statements-known .limits .statements;
+          few = known .few-statements;
           pointers = record { section = refl; operands-are = tables .operands-are; centers-are = tables .centers-are; loops-are = tables .loops-are };
-          symbols-are = known .symbols-are;
         }

@@ -2,7 +2,7 @@
 use Prim.Native.Nat.{ℕ}
 use mathlib.Core.Path.{_≡_, refl, sym}
 use mathlib.Core.Logic.{inl, inr}
-use mathlib.Core.Bool.{Bool, true, false, not, _&&_, _||_}
+use mathlib.Core.Bool.{Bool, true, false, not, _&&_, _||_, and-true}
 use Rattle.model.specs.Tests.{Is, _and_, _or_, non, _==_, every}
 use Rattle.model.specs.Outcomes.{require}
 use Rattle.model.specs.Layout.{Plan, statementCount}
@@ -21,9 +21,22 @@ module _ (P : Plan) (f s : ℕ) where
   unfolding conflicts
   forbids t h = elim (either (both h .1)) [ inl r ↦ both (both r .1) .0 | inr r ↦ both (both r .1) .0 ]
 
+  other-loop : (loop P s ≡ f → ⊥) → Is (non (accessOfLoop P f s))
+  unfolding accessOfLoop
+  other-loop ne = refuted (λ h. ne (same (both h .1)))
+
   pub elsewhere : (loop P s ≡ f → ⊥) → Is (harmless P f s)
-  unfolding harmless accessOfLoop
-  elsewhere ne = one (inl (refuted (λ h. ne (same (both h .1)))))
+  unfolding harmless
+  elsewhere ne = one (inl (other-loop ne))
+
+  -- it is apart from every access of another loop, and in its own loop from those that do not forbid it
+  pub apart-elsewhere : (a : ℕ) → (loop P s ≡ f → ⊥) → Is (apart P f a s)
+  unfolding apart
+  apart-elsewhere a ne = one (inl (other-loop ne))
+
+  pub apart-within : (a : ℕ) → loop P s ≡ f → apart P f a s ≡ not (accesses P s) || not (conflicts P a s)
+  unfolding apart accessOfLoop _and_ _or_ non
+  apart-within a e = rw (same! e, and-true)
 
   idle : Is (non (accesses P s)) → Is (harmless P f s)
   unfolding harmless accessOfLoop

@@ -1,5 +1,3 @@
-pub mod Frames
-pub mod Scanning
 pub mod Verdict
 pub mod Stages
 pub mod Handed

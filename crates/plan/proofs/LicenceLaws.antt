@@ -8,7 +8,7 @@ use Rattle.model.specs.Tests.{any}
 use Rattle.model.specs.Bytes.{Bytes}
 use Rattle.model.specs.Layout.{Plan}
 use Rattle.model.specs.Lemmas.{licence, licences, operandOf, concludesSubset, concludesDisjoint, concludesComplete}
-use Rattle.plan.specs.Parts.{parts}
+use Rattle.layout.specs.Parts.{parts}
 use Rattle.plan.specs.Steps.{licensedBy}
 use Rattle.plan.specs.declared.steps.Step.{Step}
 use Rattle.plan.proofs.Rows.{picked}

@@ -1,5 +1,5 @@
 -- The needs are listed statement by statement, with the bounds of the variables so far in a table. Assumes nothing.
-use Prim.Native.Nat.{ℕ, _+_, _*_, _/_, _≤_, _<_}
+use Prim.Native.Nat.{ℕ, suc, _+_, _*_, _≤_, _<_}
 use mathlib.Core.Path.{_≡_, refl, sym, _∙_, ap}
 use mathlib.Core.Bool.{Bool, true, false}
 use mathlib.Core.List.{List, []}
@@ -8,23 +8,24 @@ use lib.ListN.{getD, length, set, replicate, length-set, length-replicate}
 use lib.Seq.{getD-set-same, getD-set-other}
 use lib.Dec.{eqb}
 use borrow.Author.Tests.{eqb-true, eqb-false}
-use Rattle.model.specs.Tests.{_and_}
+use Rattle.model.specs.Tests.{_and_, pick}
 use Rattle.model.specs.Bytes.{Bytes}
 use Rattle.model.specs.Recursion.{below}
 use Rattle.model.specs.Layout.{Plan, statementCount, nodeCount}
-use Rattle.model.specs.Statements.{kind, opens, defines, accesses, loopBefore, variables, definition, operandBy, operand, operandDefinition, centeredBy, centered}
+use Rattle.model.specs.Statements.{kind, opens, defines, loopBefore, variables, definition, operandBy, operand, operandDefinition, centeredBy, centered}
 use Rattle.model.specs.Parallel.{reducesThroughPointer}
 use Rattle.model.specs.Needs.{hasSymbol, symbol, boundBy, bound, operandBound}
 use Rattle.model.specs.declared.StatementKind.{StatementKind}
 use Rattle.model.specs.declared.StatementKind.the-variants.{For, Load, Call, Copy, Read, Write, Reduce, Unknown}
 use Rattle.model.proofs.Recursion.{course-law}
-use Rattle.plan.specs.Tables.{Table, StatementTables, loopParts, statementParts}
+use Rattle.plan.specs.Tables.{Table, statementParts}
 use Rattle.plan.specs.Loops.{PointersKnown}
 use Rattle.plan.specs.Needs.{needParts, boundAt, need, noNeed, firstClaim, secondClaim, firstNeed, secondNeed, Listed, NeedsKnown}
 use Rattle.plan.specs.declared.needs.Claim.{Claim}
 use Rattle.plan.specs.declared.needs.Need.{Need}
 use Rattle.plan.proofs.Stored.{stored, earlier-holds}
 use Rattle.plan.proofs.Tracking.{operand-most}
+use Rattle.plan.proofs.Numbering.{symbol-first, symbol-next, symbol-most}
 
 -- the bound of the variable that statement s defines, from that of the variable that it follows
 module _ (P : Plan) (s : ℕ) where
@@ -72,15 +73,19 @@ listed-next P s {needs} few l {x} {y} e f =
     second k lt false q = let ne = eqb-false k s q in other (k * 2 + 1) (λ z. omega arith) (λ z. omega arith) ∙ l .second-are k (omega arith)
 
 -- the pass before statement s
-pub record Listing (P : Plan) (s : ℕ) (bounds : List ℕ) (needs : List Need) : Type 0 where
+pub record Listing (P : Plan) (s number : ℕ) (bounds : List ℕ) (needs : List Need) : Type 0 where
   pub inside : s ≤ statementCount P
+  pub number-is : number ≡ symbol P s
+  pub number-most : number ≤ s
   pub bounds-are : Table 0 s bounds (bound P)
   pub needs-are : Listed P s needs
 
-pub listing-starts : (P : Plan) → Listing P 0 (replicate 64 0) (replicate 128 noNeed)
+pub listing-starts : (P : Plan) → Listing P 0 0 (replicate 64 0) (replicate 128 noNeed)
 listing-starts P =
     record {
       inside = omega arith;
+      number-is = symbol-first P;
+      number-most = omega arith;
       bounds-are = record { room = length-replicate {A = ℕ} 64 0; holds = λ s lt. absurd (omega arith) };
       needs-are = record {
         room = length-replicate 128 noNeed;
@@ -94,7 +99,7 @@ module _ (statements nodes assignments : Bytes) where
   abbrev pub plan : Plan
   plan = needParts statements nodes assignments []
 
-  module _ {operands : List ℕ} {centers : List Bool} {loops symbols : List ℕ} (known : NeedsKnown statements operands centers loops symbols) where
+  module _ {operands : List ℕ} {centers : List Bool} {loops : List ℕ} (known : NeedsKnown statements operands centers loops) where
     pub pointers-known : PointersKnown plan statements operands centers loops
     unfolding kind opens defines loopBefore variables definition operandBy operand operandDefinition centeredBy centered
     pointers-known =
@@ -102,15 +107,11 @@ module _ (statements nodes assignments : Bytes) where
         record { section = refl; operands-are = p .operands-are; centers-are = p .centers-are; loops-are = p .loops-are }
 
     module _ (s : ℕ) (lt : s < statementCount plan) where
-      pub symbol-is : {number : ℕ} → number ≡ getD symbols s 0 → number ≡ symbol plan s
-      unfolding kind opens accesses hasSymbol symbol
-      symbol-is e = e ∙ known .symbols-are .holds s lt
-
       operand-is : {o : ℕ} → o ≡ getD operands s 0 → o ≡ operandDefinition plan s
       operand-is e = e ∙ pointers-known .operands-are .holds s lt
 
       -- statement s is entered into the two tables
-      module _ {bounds : List ℕ} {needs : List Need} (listing : Listing plan s bounds needs) {o followed b : ℕ}
+      module _ {number : ℕ} {bounds : List ℕ} {needs : List Need} (listing : Listing plan s number bounds needs) {o followed b : ℕ}
           (works-on : o ≡ getD operands s 0) (follows : followed ≡ below (nodeCount plan) s (λ d. getD bounds d 0) o)
           (defines-bound : b ≡ boundAt plan s (λ d. followed)) where
         bounds-next : Table 0 (s + 1) (set bounds s b) (bound plan)
@@ -123,31 +124,20 @@ module _ (statements nodes assignments : Bytes) where
         operand-bound e =
             e ∙ rw (operand-is works-on) (bounds-next .holds (operandDefinition plan s) (omega (arith, operand-most plan s)))
 
-        pub listing-next : {number node v : ℕ} {k : StatementKind} {reduces : Bool} {first second : Claim}
-            → number ≡ getD symbols s 0 → node ≡ getD assignments number 0 → v ≡ getD (set bounds s b) o 0 → k ≡ kind (statementParts statements) s
+        pub listing-next : {node v after : ℕ} {k : StatementKind} {reduces : Bool} {first second : Claim}
+            → node ≡ getD assignments number 0 → v ≡ getD (set bounds s b) o 0 → k ≡ kind (statementParts statements) s
             → first ≡ firstClaim k node v (nodeCount plan) → reduces ≡ (opens plan s and reducesThroughPointer plan s) → second ≡ secondClaim reduces node
-            → Listing plan (s + 1) (set bounds s b) (set (set needs (s * 2) (need number first)) (s * 2 + 1) (need number second))
+            → after ≡ pick (hasSymbol (statementParts statements) s) (suc number) number
+            → Listing plan (s + 1) after (set bounds s b) (set (set needs (s * 2) (need number first)) (s * 2 + 1) (need number second))
         unfolding kind firstNeed secondNeed
-        listing-next m n v k f r g =
+        listing-next n v k f r g a =
             let few = known .few in
             record {
               inside = omega arith;
+              number-is = symbol-next plan refl s (listing .number-is) a;
+              number-most = symbol-most _ _ _ a (listing .number-most);
               bounds-are = bounds-next;
               needs-are = listed-next plan s (omega arith) (listing .needs-are)
-                  (rw (f, k, n, operand-bound v, symbol-is m))
-                  (rw (g, r, n, symbol-is m));
+                  (rw (f, k, n, operand-bound v, listing .number-is))
+                  (rw (g, r, n, listing .number-is));
             }
-
--- what section 4's reader leaves in its tables, and the symbols, is what the needs are inferred from
-pub needs-known : (regions maps statements : Bytes) {operands variable-regions : List ℕ} {centers : List Bool} {loops symbols : List ℕ}
-    → length statements / 4 ≤ 64
-    → StatementTables (loopParts regions maps statements) (statementCount (loopParts regions maps statements)) operands variable-regions centers loops
-    → Table 0 (statementCount (statementParts statements)) symbols (symbol (statementParts statements))
-    → NeedsKnown statements operands centers loops symbols
-unfolding kind opens defines loopBefore variables definition operandBy operand operandDefinition centeredBy centered
-needs-known regions maps statements few tables symbols-are =
-    record {
-      few = few;
-      pointers = record { section = refl; operands-are = tables .operands-are; centers-are = tables .centers-are; loops-are = tables .loops-are };
-      symbols-are = symbols-are;
-    }

@@ -15,7 +15,7 @@ use Rattle.model.proofs.Tests.{both, less, at-each}
 use Rattle.model.proofs.Recursion.{below-at, course-law}
 use Rattle.model.specs.declared.Refusal.the-variants.{InvalidRecord, RegionMismatch, DuplicateNode}
 use Rattle.model.specs.declared.Outcome.the-variants.{Refuse}
-use Rattle.plan.specs.Parts.{parts}
+use Rattle.layout.specs.Parts.{parts}
 use Rattle.plan.specs.Nodes.{FormedTurn}
 use Rattle.plan.specs.Rows.{rowAmong}
 use Rattle.plan.specs.declared.nodes.Node.{Node}

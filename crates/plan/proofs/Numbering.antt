@@ -1,7 +1,6 @@
 -- The symbols of the statements, numbered in one pass. Assumes nothing.
 use Prim.Native.Nat.{ℕ, suc, _+_, _/_, _≤_}
 use mathlib.Core.Path.{_≡_, refl}
-use mathlib.Core.List.{List}
 use mathlib.Core.Bool.{Bool, true, false}
 use native.Mathlib.Omega.{arith}
 use native.Mathlib.Numerals.{add-one}
@@ -10,9 +9,8 @@ use Rattle.model.specs.Tests.{pick}
 use Rattle.model.specs.Bytes.{Bytes}
 use Rattle.model.specs.Layout.{Plan, statementCount}
 use Rattle.model.specs.Statements.{kind, opens, accesses}
-use Rattle.model.specs.Needs.{hasSymbol, symbol}
-use Rattle.plan.specs.Tables.{Table, statementParts}
-use Rattle.plan.specs.Symbols.{SymbolsNumbered}
+use Rattle.model.specs.Needs.{hasSymbol, symbol, symbolCount}
+use Rattle.plan.specs.Tables.{statementParts}
 use Rattle.plan.proofs.Pairs.{count-of-plan}
 
 module _ (P : Plan) {statements : Bytes} (section : P .statements ≡ statements) (s : ℕ) where
@@ -30,17 +28,14 @@ unfolding pick
 symbol-most true before s e h = rw e (omega arith)
 symbol-most false before s e h = rw e (omega arith)
 
--- the pass begins with symbol 0 and an empty table
-pub symbols-start : (P : Plan) (symbols : List ℕ) → length symbols ≡ 64 → (0 ≡ symbol P 0) × Table 0 0 symbols (symbol P)
+-- the first symbol is 0, and the one after the last statement is the number of symbols
+pub symbol-first : (P : Plan) → 0 ≡ symbol P 0
 unfolding symbol
-symbols-start P symbols room = (refl, record { room = room; holds = λ s lt. absurd (omega arith) })
+symbol-first P = refl
 
--- and ends with the number of symbols and the whole table
-pub symbols-end : {statements : Bytes} {s count : ℕ} {symbols : List ℕ} → s ≤ length statements / 4 → length statements / 4 ≤ s
-    → ((P : Plan) → P .statements ≡ statements → (count ≡ symbol P s) × Table 0 s symbols (symbol P))
-    → SymbolsNumbered statements count symbols
-symbols-end {statements} {s} a b h =
-    record { count-is = λ P e. rw (all P e) (h P e .0); table-is = λ P e. rw (all P e) (h P e .1) }
-  where
-    all : (P : Plan) → P .statements ≡ statements → statementCount P ≡ s
-    all P e = let n = count-of-plan P e in omega arith
+pub symbols-counted : (P : Plan) {statements : Bytes} {s count : ℕ} → P .statements ≡ statements → s ≤ length statements / 4
+    → length statements / 4 ≤ s → count ≡ symbol P s → count ≡ symbolCount P
+symbols-counted P {s} e a b h =
+    let n = count-of-plan P e in
+    let all : statementCount P ≡ s = omega arith in
+    rw all h

@@ -2,17 +2,17 @@
 use Prim.Native.Nat.{ℕ, _+_, _*_, _/_, _≤_, _<_}
 use mathlib.Core.Path.{_≡_, refl, sym, _∙_}
 use mathlib.Core.List.{List}
-use mathlib.Core.Bool.{Bool, true, false, not, _&&_}
+use mathlib.Core.Bool.{Bool, true, false}
 use native.Mathlib.Numerals.{add-one}
 use native.Mathlib.Omega.{arith}
 use lib.ListN.{getD, length}
-use Rattle.model.specs.Tests.{Is, _or_, non, any, every}
+use Rattle.model.specs.Tests.{Is, every}
 use Rattle.model.specs.Bytes.{Bytes}
 use Rattle.model.specs.Layout.{Plan, statementCount}
 use Rattle.model.specs.Statements.{kind, accessOf, operandDefinition, centered}
 use Rattle.model.specs.declared.Access.{Access}
 use Rattle.model.specs.declared.StatementKind.{StatementKind}
-use Rattle.model.proofs.Tests.{falsum, pair, among, every-at}
+use Rattle.model.proofs.Tests.{falsum, pair, every-at}
 use Rattle.plan.specs.Tables.{statementParts}
 use Rattle.plan.specs.Loops.{accessAt, LoopsKnown, PointersKnown}
 use Rattle.plan.proofs.Tracking.{operand-most}
@@ -27,20 +27,18 @@ module _ (P : Plan) {statements : Bytes} (section : P .statements ≡ statements
 
 module _ (P : Plan) {statements : Bytes} {operands regions : List ℕ} {centers : List Bool} {loops : List ℕ}
     (known : LoopsKnown P statements operands regions centers loops) where
-  pub access-is : (s : ℕ) → s < statementCount P → {access : Access} {k : StatementKind} {o opened region operator : ℕ} {z : Bool}
-      → access ≡ accessOf k → k ≡ kind (statementParts statements) s → o ≡ getD operands s 0 → opened ≡ getD loops s 0
+  pub access-is : (s : ℕ) → s < statementCount P → {access : Access} {k : StatementKind} {o region operator : ℕ} {z : Bool}
+      → access ≡ accessOf k → k ≡ kind (statementParts statements) s → o ≡ getD operands s 0
       → region ≡ getD regions o 0 → z ≡ getD centers o false → operator ≡ getD statements (s * 4 + 3) 0
-      → record { access = access; opened = opened; region = region; centered = z; operator = operator } ≡ accessAt P s
+      → record { access = access; region = region; centered = z; operator = operator } ≡ accessAt P s
   unfolding accessAt
-  access-is s lt a k o l r z c =
+  access-is s lt a k o r z c =
       let t = known .tables in
       let at : _ ≡ operandDefinition P s = o ∙ t .operands-are .holds s lt in
       let earlier : operandDefinition P s < statementCount P = omega (arith, operand-most P s) in
       rw (
         a,
         kind-of-plan P (known .section) s k,
-        l,
-        t .loops-are .holds s lt,
         r,
         z,
         at,
@@ -58,24 +56,6 @@ module _ (P : Plan) {statements : Bytes} {operands : List ℕ} {centers : List B
   operand-centered s lt o z =
       let earlier : operandDefinition P s < statementCount P = omega (arith, operand-most P s) in
       rw (z, o, known .operands-are .holds s lt, known .centers-are .holds (operandDefinition P s) earlier)
-
--- a loop that looks for one number below a bound: none found so far, or one
-module _ (f : ℕ → Bool) where
-  pub any-start : any 0 f ≡ false
-  unfolding any
-  any-start = refl
-
-  module _ (k : ℕ) where
-    pub any-next : any k f ≡ false → f k ≡ false → any (k + 1) f ≡ false
-    unfolding any _or_
-    any-next h e = rw (add-one k, any, h, e)
-
-    module _ (n : ℕ) where
-      pub any-found : k < n → Is (f k) → Is (any n f)
-      any-found lt e = among {f = f} (k, lt, e)
-
-      pub any-end : {m : ℕ} → m ≡ n → k ≤ m → m ≤ k → any k f ≡ false → any n f ≡ false
-      any-end e a b h = let all : n ≡ k = omega arith in rw all h
 
 -- a loop over all numbers below a bound: all passed so far, or one fails
 module _ (f : ℕ → Bool) where
@@ -98,9 +78,3 @@ module _ (f : ℕ → Bool) where
 
       pub every-end : {m : ℕ} → m ≡ n → k ≤ m → m ≤ k → Is (every k f) → Is (every n f)
       every-end e a b h = let all : n ≡ k = omega arith in rw all h
-
--- two tests together fail where one fails
-pub not-both : (a b : Bool) → (non a or non b) ≡ not (a && b)
-unfolding _or_ non
-not-both true b = refl
-not-both false b = refl

@@ -27,6 +27,7 @@ use Rattle.plan.specs.Needs.{needParts, stepParts, noNeed, firstClaim, s
 use Rattle.plan.specs.declared.needs.Claim.{Claim}
 use Rattle.plan.specs.declared.needs.Claim.the-variants.{Nothing, Complete, Disjoint, Subset, Unlisted}
 use Rattle.plan.specs.declared.needs.Need.{Need}
+use Rattle.plan.proofs.Stages.{then-assoc}
 
 -- need i, which asks for nothing, or which a step concludes, or which none concludes
 module _ (P : Plan) (needs : List Need) (i : ℕ) where
@@ -44,11 +45,6 @@ module _ (P : Plan) (needs : List Need) (i : ℕ) where
   unmet w h = rw (w, h)
 
 -- two checks of each statement in a row are one
-then-assoc : (a b d : Outcome) → (a then b) then d ≡ a then (b then d)
-unfolding _then_
-then-assoc Pass b d = refl
-then-assoc (Refuse r) b d = refl
-
 pub scan-pairs : (f g : ℕ → Outcome) (k n : ℕ) → ((s : ℕ) → k ≤ s → s < k + n → (g (s * 2) then g (s * 2 + 1)) ≡ f s)
     → scan g (k * 2) (n * 2) ≡ scan f k n
 unfolding scan

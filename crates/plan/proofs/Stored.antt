@@ -1,10 +1,10 @@
 -- Tables by number: what is read of one below its bound, and what is stored next. Assumes nothing.
-use Prim.Native.Nat.{ℕ, _+_, _≤_, _<_}
+use Prim.Native.Nat.{ℕ, zero, suc, _+_, _≤_, _<_}
 use mathlib.Core.Path.{_≡_, refl, sym, _∙_}
 use mathlib.Core.List.{List}
 use mathlib.Core.Bool.{Bool, true, false}
 use native.Mathlib.Omega.{arith}
-use lib.ListN.{getD, set, length-set}
+use lib.ListN.{getD, replicate, set, length-set}
 use lib.Seq.{getD-set-same, getD-set-other}
 use lib.Dec.{eqb, ltb}
 use borrow.Author.Tests.{ltb-true, ltb-false, le-ltb, eqb-true, eqb-false}
@@ -13,6 +13,12 @@ use Rattle.model.specs.Recursion.{below}
 use Rattle.model.proofs.Tests.{pick-false}
 use Rattle.model.proofs.Recursion.{below-at}
 use Rattle.plan.specs.Tables.{Table}
+
+-- before the first store every entry is 0
+pub zeros : (n k : ℕ) → _≡_ {A = ℕ} (getD (replicate n 0) k 0) 0
+zeros zero k = refl
+zeros (suc n) zero = refl
+zeros (suc n) (suc k) = zeros n k
 
 -- a number that is not below the bound has the default
 pub below-past : {A : Type 0} (default : A) (j : ℕ) (values : ℕ → A) (k : ℕ) → j ≤ k → below default j values k ≡ default

@@ -1,5 +1,5 @@
 -- A table filled in order: below j its entries are a function's values, from j on 0. Assumes nothing.
-use Prim.Native.Nat.{ℕ, zero, suc, _+_, _≤_, _<_}
+use Prim.Native.Nat.{ℕ, _+_, _≤_, _<_}
 use mathlib.Core.Path.{_≡_, refl, sym, _∙_}
 use mathlib.Core.Bool.{Bool, true, false}
 use mathlib.Core.List.{List}
@@ -11,27 +11,19 @@ use lib.Seq.{getD-set-same, getD-set-other}
 use borrow.Author.Tests.{eqb-true, eqb-false}
 use Rattle.model.specs.Tests.{_<?_}
 use Rattle.model.specs.Recursion.{below}
-use Rattle.model.proofs.Tests.{less, less!, lacks, split, refuted, fails, pick-false}
+use Rattle.model.proofs.Tests.{less, less!, lacks, split}
 use Rattle.model.proofs.Recursion.{below-at}
-
-zeros : (n k : ℕ) → _≡_ {A = ℕ} (getD (replicate n 0) k 0) 0
-zeros zero k = refl
-zeros (suc n) zero = refl
-zeros (suc n) (suc k) = zeros n k
+use Rattle.plan.proofs.Stored.{zeros, below-past}
 
 module _ (f : ℕ → ℕ) where
-  below-not : (j k : ℕ) → j ≤ k → below 0 j f k ≡ 0
-  unfolding below
-  below-not j k h = pick-false (k <? j) _ _ (fails (refuted (λ y. let l = less y in omega arith)))
-
   pub none-filled : (n k : ℕ) → getD (replicate n 0) k 0 ≡ below 0 0 f k
-  none-filled n k = zeros n k ∙ sym (below-not 0 k (omega arith))
+  none-filled n k = zeros n k ∙ sym (below-past 0 0 f k (omega arith))
 
   below-more : (j k : ℕ) → (k ≡ j → ⊥) → below 0 j f k ≡ below 0 (j + 1) f k
   below-more j k ne =
       elim (split (k <? j)) [
         | inl y ↦ let l = less y in below-at 0 j f k l ∙ sym (below-at 0 (j + 1) f k (omega arith))
-        | inr n ↦ let past : j + 1 ≤ k = after (lacks n) in below-not j k (omega arith) ∙ sym (below-not (j + 1) k past)
+        | inr n ↦ let past : j + 1 ≤ k = after (lacks n) in below-past 0 j f k (omega arith) ∙ sym (below-past 0 (j + 1) f k past)
       ]
     where
       after : ((k <? j) ≡ true → ⊥) → j + 1 ≤ k

@@ -23,7 +23,7 @@ use Rattle.model.proofs.Outcomes.{never, then-pass, require-pass, scan-start, s
 use Rattle.model.proofs.Recursion.{course-law}
 use Rattle.plan.specs.Tables.{Table, regionAt, centeredAt, variablesAfter, Tracks, StatementTables, Fits, Entered, StatementsRead}
 use Rattle.plan.specs.declared.statements.Variables.{Variables}
-use Rattle.plan.proofs.Stored.{stored, earlier-holds}
+use Rattle.plan.proofs.Stored.{zeros, stored, earlier-holds}
 
 -- a list after a store, at every place
 set-pick : (xs : List ℕ) (at v k : ℕ) → at < length xs → getD (set xs at v) k 0 ≡ pick (k == at) v (getD xs k 0)
@@ -49,11 +49,6 @@ opens-only Unknown e = refl
 or-no : (b : Bool) → b || false ≡ b
 or-no true = refl
 or-no false = refl
-
-zeros : (n k : ℕ) → getD {A = ℕ} (replicate n 0) k 0 ≡ 0
-zeros zero k = refl
-zeros (suc n) zero = refl
-zeros (suc n) (suc k) = zeros n k
 
 module _ (P : Plan) where
   -- the definition of a variable is an earlier statement, or 0

@@ -1,28 +1,27 @@
 -- The verdict of a plan from its layout and its records. Assumes nothing.
-use Prim.Native.Nat.{ℕ, _+_, _-_, _/_, _≤_}
+use Prim.Native.Nat.{ℕ, _+_}
 use mathlib.Core.Path.{_≡_, sym, _∙_, ap, subst⁻¹}
-use native.Mathlib.Nat.{div-one}
-use native.Mathlib.Omega.{arith}
-use lib.ListN.{length, length-take, length-drop}
 use Rattle.model.specs.Bytes.{Bytes, part, boundary, body}
 use Rattle.model.specs.Outcomes.{_then_, conclude}
 use Rattle.model.specs.Layout.{Plan, planOf, layoutCheck, assignmentCount, nodeCount, stepCount}
 use Rattle.model.specs.Needs.{symbolCount, assignmentCountCheck}
 use Rattle.model.specs.Verdict.{recordsCheck, accepted, planCheck, verdict}
+use Rattle.model.specs.AcceptedPlans.{Limits}
 use Rattle.model.specs.declared.Refusal.{Refusal}
 use Rattle.model.specs.declared.Outcome.{Outcome}
 use Rattle.model.specs.declared.Outcome.the-variants.{Pass, Refuse}
 use Rattle.model.specs.declared.Answer.the-variants.{Accepted, Refused}
 use Rattle.model.proofs.Tests.{same}
 use Rattle.model.proofs.Outcomes.{then-pass, require-pass, conclude-accepted}
-use Rattle.plan.specs.declared.frame.Frame.{Frame}
-use Rattle.plan.specs.Parts.{parts}
-use Rattle.plan.specs.declared.frame.Framed.{Framed}
-use Rattle.plan.specs.declared.frame.Framed.the-variants.{Whole, Broken}
-use Rattle.plan.specs.Frames.{frameOf, framedOf, Body, Laid}
-use Rattle.plan.specs.Sections.{Limits}
-use Rattle.plan.specs.Reading.{noFrame, frameIf, readingOf}
-use Rattle.plan.proofs.Frames.{framing-whole, framing-broken, layout-laid}
+use Rattle.model.proofs.Accepted.{laid-out, limits, verdict-accepted}
+use Rattle.layout.specs.declared.frame.Frame.{Frame}
+use Rattle.plan.specs.declared.Reading.{Reading}
+use Rattle.layout.specs.Parts.{parts}
+use Rattle.layout.specs.declared.frame.Framed.{Framed}
+use Rattle.layout.specs.declared.frame.Framed.the-variants.{Whole, Broken}
+use Rattle.layout.specs.Frames.{frameOf, framedOf, Laid}
+use Rattle.plan.specs.Reading.{noFrame, frameIf, readingOf, AcceptedReading, ReadPromise}
+use Rattle.layout.proofs.Frames.{framing-whole, framing-broken, layout-laid}
 
 -- the sections, cut where a frame says
 abbrev pub cut : Bytes → Frame → Plan
@@ -40,24 +39,9 @@ pub cut-plan : (p : Bytes) (frame : Frame) → frame ≡ frameOf p → cut p fra
 unfolding body boundary
 cut-plan p frame e = rw e
 
-part-length : (p : Bytes) (a e : ℕ) → a ≤ e → e ≤ length p → length (part p a e) ≡ e - a
-part-length p a e starts ends = simp (length-take, length-drop) (omega arith)
-
-part-count : {width fewest most : ℕ} (p : Bytes) (a e : ℕ) → Body width fewest most a e (length p) → length (part p a e) / width ≤ most
-part-count p a e body = rw (part-length p a e (body .starts) (body .ends)) (body .few)
-
 -- the sections of a layout that passes keep the limits
 pub cut-limits : (p : Bytes) (frame : Frame) → Laid p frame → Limits (cut p frame)
-cut-limits p frame known =
-    record {
-      regions = rw div-one at (part-count p _ _ (known .regions));
-      maps = part-count p _ _ (known .maps);
-      supplied = part-count p _ _ (known .supplied);
-      statements = part-count p _ _ (known .statements);
-      nodes = part-count p _ _ (known .nodes);
-      assignments = rw div-one at (part-count p _ _ (known .assignments));
-      steps = part-count p _ _ (known .steps);
-    }
+cut-limits p frame known = subst⁻¹ Limits (cut-plan p frame (known .places)) (limits p (laid-out p (known .passes)))
 
 -- "assignments not one per symbol" is refused, so a plan that passes has as many symbols as assignments
 symbols-assigned : (P : Plan) → recordsCheck P ≡ Pass → assignmentCount P ≡ symbolCount P
@@ -110,3 +94,12 @@ unfolding verdict planCheck frameIf
 accepted-laid p symbols nodes steps h =
     let passes = then-pass _ _ (conclude-accepted _ _ _ _ _ h .0) .0 in
     rw passes (layout-laid p passes)
+
+-- what reading promises, from what it gives
+pub read-promise : (p : Bytes) (r : Reading) → r ≡ readingOf p → ReadPromise p r
+read-promise p r e = record { reading = e; accepted = λ symbols nodes steps h. rw e (known symbols nodes steps (sym (ap (λ x. x .answer) e) ∙ h)) }
+  where
+    known : (symbols nodes steps : ℕ) → verdict p ≡ Accepted symbols nodes steps → AcceptedReading p (readingOf p)
+    known symbols nodes steps h =
+        let plan = verdict-accepted p symbols nodes steps h .0 in
+        record { laid = accepted-laid p symbols nodes steps h; facts = plan .records; limits = limits p (plan .layout) }

@@ -1,5 +1,3 @@
-pub mod Parts
-pub mod Frames
 pub mod Reading
 pub mod Sections
 pub mod Tables

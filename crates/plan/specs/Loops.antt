@@ -17,7 +17,6 @@ unfoldable pub accessAt : Plan → ℕ → LoopAccess
 accessAt P s =
     record {
       access = accessOf (kind P s);
-      opened = loop P s;
       region = operandRegion P s;
       centered = centered P (operandDefinition P s);
       operator = statementC P s;

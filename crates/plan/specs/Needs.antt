@@ -7,7 +7,7 @@ use lib.ListN.{getD, length}
 use Rattle.model.specs.Tests.{_and_, _or_, non, any, pick, _==_, _<?_}
 use Rattle.model.specs.Bytes.{Bytes}
 use Rattle.model.specs.Outcomes.{require}
-use Rattle.model.specs.Layout.{Plan, statementCount, nodeCount, nodeKind, nodeA, nodeB, stepCount}
+use Rattle.model.specs.Layout.{Plan, nodeCount, nodeKind, nodeA, nodeB, stepCount}
 use Rattle.model.specs.Statements.{kind, opensLoop, accessOf, isAccess, opens}
 use Rattle.model.specs.Parallel.{reducesThroughPointer}
 use Rattle.model.specs.Nodes.{IMAGE}
@@ -16,8 +16,8 @@ use Rattle.model.specs.Needs.{symbol, symbolNode, boundBy, operandBound}
 use Rattle.model.specs.declared.StatementKind.{StatementKind}
 use Rattle.model.specs.declared.Outcome.{Outcome}
 use Rattle.model.specs.declared.Refusal.the-variants.{UnmetNeed}
-use Rattle.plan.specs.Parts.{parts}
-use Rattle.plan.specs.Tables.{Table, statementParts}
+use Rattle.layout.specs.Parts.{parts}
+use Rattle.plan.specs.Tables.{statementParts}
 use Rattle.plan.specs.Loops.{PointersKnown}
 use Rattle.plan.specs.declared.needs.Claim.{Claim}
 use Rattle.plan.specs.declared.needs.Claim.the-variants.{Nothing, Complete, Disjoint, Subset, Unlisted}
@@ -103,8 +103,7 @@ isMet P claim = non (isWanted claim) or any (stepCount P) (concludedBy P claim)
 unfoldable pub settled : Plan → List Need → ℕ → Outcome
 settled P needs i = require (isMet P (getD needs i noNeed .claim)) (UnmetNeed (getD needs i noNeed .symbol))
 
--- what the needs are inferred from: few statements, and tables that hold section 4's values and the symbols
-pub record NeedsKnown (statements : Bytes) (operands : List ℕ) (centers : List Bool) (loops symbols : List ℕ) : Type 0 where
+-- what the needs are inferred from: few statements, and tables that hold section 4's values
+pub record NeedsKnown (statements : Bytes) (operands : List ℕ) (centers : List Bool) (loops : List ℕ) : Type 0 where
   pub few : length statements / 4 ≤ 64
   pub pointers : PointersKnown (statementParts statements) statements operands centers loops
-  pub symbols-are : Table 0 (statementCount (statementParts statements)) symbols (symbol (statementParts statements))

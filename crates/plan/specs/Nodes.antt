@@ -10,7 +10,7 @@ use Rattle.model.specs.Outcomes.{scan}
 use Rattle.model.specs.Layout.{Plan, nodeCount}
 use Rattle.model.specs.Nodes.{nodeFormed, nodeRegion, nodeAgrees, nodeCheck}
 use Rattle.model.specs.declared.Outcome.the-variants.{Pass}
-use Rattle.plan.specs.Parts.{parts}
+use Rattle.layout.specs.Parts.{parts}
 use Rattle.plan.specs.declared.nodes.Node.{Node}
 use Rattle.plan.specs.declared.nodes.NodeRegion.{NodeRegion}
 use Rattle.plan.specs.declared.nodes.CheckedNode.{CheckedNode}

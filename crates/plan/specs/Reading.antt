@@ -1,13 +1,16 @@
 -- What reading a plan gives.
-use Rattle.model.specs.Answers as Answers
+use Prim.Native.Nat.{ℕ}
+use mathlib.Core.Path.{_≡_}
 use Rattle.model.specs.Bytes.{Bytes}
-use Rattle.model.specs.Layout.{layoutCheck}
+use Rattle.model.specs.Layout.{planOf, layoutCheck}
 use Rattle.model.specs.Verdict.{verdict}
+use Rattle.model.specs.AcceptedPlans.{Facts, Limits}
+use Rattle.model.specs.declared.Answer.the-variants.{Accepted}
 use Rattle.model.specs.declared.Outcome.{Outcome}
 use Rattle.model.specs.declared.Outcome.the-variants.{Pass, Refuse}
-use Rattle.plan.specs.declared.frame.Frame.{Frame}
+use Rattle.layout.specs.declared.frame.Frame.{Frame}
 use Rattle.plan.specs.declared.Reading.{Reading}
-use Rattle.plan.specs.Frames.{frameOf}
+use Rattle.layout.specs.Frames.{frameOf, Laid}
 
 abbrev pub noFrame : Frame
 noFrame = record { regions = 0; maps = 0; supplied = 0; statements = 0; nodes = 0; assignments = 0; steps = 0 }
@@ -20,3 +23,14 @@ frameIf (Refuse r) frame = noFrame
 -- verdict and frame together
 abbrev pub readingOf : Bytes → Reading
 readingOf p = record { answer = verdict p; frame = frameIf (layoutCheck p) (frameOf p) }
+
+-- what is known of a plan that reading accepted: where its sections are, what each record is, and how many there are
+pub record AcceptedReading (p : Bytes) (r : Reading) : Type 0 where
+  pub laid : Laid p (r .frame)
+  pub facts : Facts (planOf p)
+  pub limits : Limits (planOf p)
+
+-- reading the plan's bytes p gives r
+pub record ReadPromise (p : Bytes) (r : Reading) : Type 0 where
+  pub reading : r ≡ readingOf p
+  pub accepted : (symbols nodes steps : ℕ) → r .answer ≡ Accepted symbols nodes steps → AcceptedReading p r

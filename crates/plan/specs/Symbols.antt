@@ -1,25 +1,14 @@
 -- What the checker knows of symbols and of the nodes that section 6 assigns to them.
-use Prim.Native.Nat.{ℕ, _/_, _≤_, _<_}
+use Prim.Native.Nat.{ℕ, _≤_, _<_}
 use mathlib.Core.Path.{_≡_}
 use mathlib.Core.List.{List}
-use lib.ListN.{length, getD}
+use lib.ListN.{getD}
 use Rattle.model.specs.Bytes.{Bytes}
 use Rattle.model.specs.Layout.{Plan, statementCount, nodeCount}
 use Rattle.model.specs.Statements.{operandDefinition, variableRegion}
 use Rattle.model.specs.Nodes.{nodeRegion}
-use Rattle.model.specs.Needs.{symbol, symbolCount}
 use Rattle.plan.specs.Tables.{Table}
 use Rattle.plan.specs.Loops.{Within}
-
--- few statements, and a table with room for their symbols
-pub record SymbolRoom (statements : Bytes) (symbols : List ℕ) : Type 0 where
-  pub few : length statements / 4 ≤ 64
-  pub room : length symbols ≡ 64
-
--- the number of symbols, and a table of the symbol of each statement
-pub record SymbolsNumbered (statements : Bytes) (count : ℕ) (symbols : List ℕ) : Type 0 where
-  pub count-is : (P : Plan) → P .statements ≡ statements → count ≡ symbolCount P
-  pub table-is : (P : Plan) → P .statements ≡ statements → Table 0 (statementCount P) symbols (symbol P)
 
 -- statement s is one of at most 64, with at most one symbol for each before it
 pub record Numbered (statements : Bytes) (symbol s : ℕ) : Type 0 where

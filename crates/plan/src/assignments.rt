@@ -1,25 +1,25 @@
 // Symbols, and section 6: a node for each, of its region.
-use crate::bytes::byte_at;
 use crate::kinds::access_of;
 use crate::kinds::is_access;
 use crate::kinds::opens_loop;
 use crate::lookup::number_at;
-use crate::outcomes::and_then;
-use crate::outcomes::require;
 use crate::statements::kind_at;
+use layout::bytes::byte_at;
+use layout::outcomes::and_then;
+use layout::outcomes::require;
 use model::Outcome;
 use model::Refusal;
 ghost use mathlib.Core.Path.{_≡_};
 ghost use Prim.Native.Nat.{ℕ, suc, _/_, _<_, _≤_};
 ghost use lib.ListN.{length};
 ghost use Rattle.model.specs.Tests.{pick};
-ghost use Rattle.model.specs.Outcomes.{scan};
+ghost use Rattle.model.specs.Outcomes.{_then_, scan};
 ghost use Rattle.model.specs.Layout.{Plan, statementCount};
 ghost use Rattle.model.specs.Needs as Needs;
 ghost use Rattle.model.specs.Needs.{hasSymbol, symbolCount, symbolRegion, assignmentCountCheck, assignmentCheck};
 ghost use Rattle.plan.specs.Tables.{statementParts};
 ghost use Rattle.plan.specs.Loops.{Within};
-ghost use Rattle.plan.specs.Symbols.{SymbolRoom, SymbolsNumbered, Numbered, RegionsKnown, AssignmentsKnown};
+ghost use Rattle.plan.specs.Symbols.{Numbered, RegionsKnown, AssignmentsKnown};
 
 // Whether statement s has a symbol: a FOR, or an access.
 pub fn has_symbol(statements: &[u8], s: usize) -> bool
@@ -31,7 +31,7 @@ pub fn has_symbol(statements: &[u8], s: usize) -> bool
 }
 
 // The number of the next symbol after statement s, given that of the next before.
-fn next_symbol(statements: &[u8], s: usize, before: usize) -> usize
+pub fn next_symbol(statements: &[u8], s: usize, before: usize) -> usize
     requires { ⌜ (s < 64) × (before ≤ s) ⌝ }
     ensures { λ r. ⌜ r ≡ pick (hasSymbol (statementParts (now (statements .entry))) s) (suc before) before ⌝ }
 {
@@ -42,15 +42,14 @@ fn next_symbol(statements: &[u8], s: usize, before: usize) -> usize
     }
 }
 
-// Numbers the symbols in the order of the statements; how many there are.
-pub fn number_symbols(statements: &[u8], symbols: &mut [usize; 64]) -> usize
-    requires { ⌜ SymbolRoom (now statements) (now symbols) ⌝ }
-    ensures { λ r. ⌜ SymbolsNumbered (now (statements .entry)) r (now (symbols .exit)) ⌝ }
+// How many symbols there are.
+fn count_symbols(statements: &[u8]) -> usize
+    requires { ⌜ length (now statements) / 4 ≤ 64 ⌝ }
+    ensures { λ r. ⌜ ((P : Plan) → P .statements ≡ now (statements .entry) → r ≡ symbolCount P) ⌝ }
 {
     let mut count = 0;
     let mut s = 0;
     while s < statements.len() / 4 {
-        symbols[s] = count;
         count = next_symbol(statements, s, count);
         s += 1;
     }
@@ -58,7 +57,7 @@ pub fn number_symbols(statements: &[u8], symbols: &mut [usize; 64]) -> usize
 }
 
 // The check before section 6: one assignment for each symbol.
-pub fn check_assignment_count(assignments: &[u8], symbols: usize) -> Outcome
+fn check_assignment_count(assignments: &[u8], symbols: usize) -> Outcome
     ensures { λ r. ⌜ ((P : Plan) → P .assignments ≡ now (assignments .entry) → symbols ≡ symbolCount P → r ≡ assignmentCountCheck P) ⌝ }
 {
     require(
@@ -112,8 +111,8 @@ fn check_assignment(
     )
 }
 
-// The check of section 6, symbol by symbol.
-pub fn check_assignments(
+// The checks of the nodes that are assigned, symbol by symbol.
+fn check_assigned_nodes(
     statements: &[u8],
     assignments: &[u8],
     nodes: usize,
@@ -144,4 +143,29 @@ pub fn check_assignments(
         s += 1;
     }
     Outcome::Pass
+}
+
+// The check of section 6: one assignment for each symbol, then the node of each.
+pub fn check_assignments(
+    statements: &[u8],
+    assignments: &[u8],
+    nodes: usize,
+    node_regions: &[usize],
+    operands: &[usize],
+    variable_regions: &[usize],
+) -> Outcome
+    requires { ⌜ length (now statements) / 4 ≤ 64 ⌝ }
+    ensures { λ r. ⌜ ((P : Plan) → AssignmentsKnown P (now (statements .entry)) (now (assignments .entry)) nodes (now («node_regions» .entry)) (now (operands .entry)) (now («variable_regions» .entry)) → r ≡ (assignmentCountCheck P then scan (assignmentCheck P) 0 (statementCount P))) ⌝ }
+{
+    let symbols = count_symbols(statements);
+    let counted = check_assignment_count(assignments, symbols);
+    let assigned = check_assigned_nodes(
+        statements,
+        assignments,
+        nodes,
+        node_regions,
+        operands,
+        variable_regions,
+    );
+    and_then(counted, assigned)
 }

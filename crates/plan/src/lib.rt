@@ -1,33 +1,27 @@
 // Reads and checks partition plans.
-use crate::frame::Frame;
-use crate::frame::Framed;
-use crate::frame::read_frame;
 use crate::records::check_records;
+use layout::frame::Frame;
+use layout::frame::Framed;
+use layout::frame::read_frame;
 use model::Answer;
 use model::Outcome;
 ghost use mathlib.Core.Path.{_≡_};
 ghost use Rattle.model.specs.Verdict.{verdict};
-ghost use Rattle.plan.specs.Frames.{Laid};
+ghost use Rattle.layout.specs.Frames.{Laid};
 ghost use Rattle.model.specs.Promises.{CheckPromise};
-ghost use Rattle.plan.specs.Reading.{readingOf};
+ghost use Rattle.plan.specs.Reading.{ReadPromise};
 
 mod assignments;
-pub mod bytes;
-pub mod frame;
 mod kinds;
 mod lemmas;
 mod licences;
 mod lookup;
-mod maps;
 mod needs;
 mod nodes;
-pub mod outcomes;
 mod parallel;
 mod records;
-mod regions;
 mod statements;
 mod steps;
-mod supplied;
 
 // What reading a plan gives: the answer, and where its sections end if the layout passes, all 0 if it does not.
 pub struct Reading {
@@ -74,7 +68,7 @@ fn check_sections(plan: &[u8], frame: Frame) -> Answer
 
 // Reads a plan: verdict and frame together.
 pub fn read(plan: &[u8]) -> Reading
-    ensures { λ r. ⌜ r ≡ readingOf (now (plan .entry)) ⌝ }
+    ensures { λ r. ⌜ ReadPromise (now (plan .entry)) r ⌝ }
 {
     match read_frame(plan) {
         Framed::Whole(frame) => {

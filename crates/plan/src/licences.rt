@@ -1,5 +1,4 @@
 // Whether a step is by its lemma.
-use crate::bytes::byte_at;
 use crate::nodes::DIFFERENCE;
 use crate::nodes::EQUAL;
 use crate::nodes::IMAGE;
@@ -13,10 +12,11 @@ use crate::steps::concludes_complete;
 use crate::steps::concludes_disjoint;
 use crate::steps::concludes_subset;
 use crate::steps::step_at;
+use layout::bytes::byte_at;
 ghost use mathlib.Core.Path.{_≡_};
 ghost use mathlib.Core.List.{[]};
 ghost use Rattle.model.specs.Lemmas.{licence};
-ghost use Rattle.plan.specs.Parts.{parts};
+ghost use Rattle.layout.specs.Parts.{parts};
 ghost use Rattle.plan.specs.Steps.{StepBytes, KnownStep, licensedBy};
 
 // Lemmas 1 to 5: x is equal, or supplied and so declared; y is x.

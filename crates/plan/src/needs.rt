@@ -1,5 +1,5 @@
 // Needs: what the loops ask the steps to conclude, and the search for the steps that do.
-use crate::bytes::byte_at;
+use crate::assignments::next_symbol;
 use crate::kinds::access_of;
 use crate::kinds::is_access;
 use crate::kinds::opens_loop;
@@ -12,6 +12,7 @@ use crate::statements::kind_at;
 use crate::steps::concludes_complete;
 use crate::steps::concludes_disjoint;
 use crate::steps::concludes_subset;
+use layout::bytes::byte_at;
 use model::Outcome;
 use model::Refusal;
 use model::StatementKind;
@@ -215,17 +216,16 @@ fn list_needs(
     operands: &[usize],
     centered: &[bool],
     loops: &[usize],
-    symbols: &[usize],
 ) -> [Need; 128]
-    requires { ⌜ NeedsKnown (now statements) (now operands) (now centered) (now loops) (now symbols) ⌝ }
+    requires { ⌜ NeedsKnown (now statements) (now operands) (now centered) (now loops) ⌝ }
     ensures { λ r. ⌜ Listed (needParts (now (statements .entry)) (now (nodes .entry)) (now (assignments .entry)) []) (statementCount (statementParts (now (statements .entry)))) r ⌝ }
 {
     let count = nodes.len() / 4;
     let mut bounds = [0; 64];
     let mut needs = [NO_NEED; 128];
+    let mut symbol = 0;
     let mut s = 0;
     while s < statements.len() / 4 {
-        let symbol = number_at(symbols, s);
         let node = byte_at(assignments, symbol);
         let operand = number_at(operands, s);
         let followed = earlier_number(&bounds, s, operand, count);
@@ -236,6 +236,7 @@ fn list_needs(
         let reduces = needs_disjoint(statements, operands, centered, loops, s);
         let claim = second_claim(reduces, node);
         needs[s * 2 + 1] = Need { symbol, claim };
+        symbol = next_symbol(statements, s, symbol);
         s += 1;
     }
     needs
@@ -250,19 +251,10 @@ pub fn check_needs(
     operands: &[usize],
     centered: &[bool],
     loops: &[usize],
-    symbols: &[usize],
 ) -> Outcome
-    requires { ⌜ NeedsKnown (now statements) (now operands) (now centered) (now loops) (now symbols) ⌝ }
+    requires { ⌜ NeedsKnown (now statements) (now operands) (now centered) (now loops) ⌝ }
     ensures { λ r. ⌜ r ≡ scan (needCheck (needParts (now (statements .entry)) (now (nodes .entry)) (now (assignments .entry)) (now (steps .entry)))) 0 (statementCount (statementParts (now (statements .entry)))) ⌝ }
 {
-    let needs = list_needs(
-        statements,
-        nodes,
-        assignments,
-        operands,
-        centered,
-        loops,
-        symbols,
-    );
+    let needs = list_needs(statements, nodes, assignments, operands, centered, loops);
     settle(needs, statements.len() / 4 * 2, steps)
 }

@@ -1,15 +1,16 @@
 // Section 5: expressions.
-use crate::bytes::byte_at;
-use crate::outcomes::and_then;
-use crate::outcomes::require;
+use crate::lookup::number_at;
+use layout::bytes::byte_at;
+use layout::outcomes::and_then;
+use layout::outcomes::require;
 use model::Outcome;
 use model::Refusal;
 ghost use mathlib.Core.Path.{_≡_};
 ghost use mathlib.Core.List.{[]};
 ghost use Prim.Native.Nat.{_+_, _*_, _/_, _^_, _≤_, _<_};
-ghost use lib.ListN.{length, getD};
+ghost use lib.ListN.{length};
 ghost use Rattle.model.specs.Nodes.{nodeFormed, sameNode, duplicateNode};
-ghost use Rattle.plan.specs.Parts.{parts};
+ghost use Rattle.layout.specs.Parts.{parts};
 ghost use Rattle.plan.specs.Nodes.{NodeRead, NodePair, NodeTurn, FormedTurn, NodeRegionOf, NodeChecked, NodesChecked};
 
 // The kinds of nodes.
@@ -65,13 +66,6 @@ pub fn node_at(nodes: &[u8], j: usize) -> Node
     Node { kind, a, b, unused }
 }
 
-// The number at a place of a table; 0 past the end.
-pub fn region_at(table: &[usize], at: usize) -> usize
-    ensures { λ r. ⌜ r ≡ getD (now (table .entry)) at 0 ⌝ }
-{
-    if at < table.len() { table[at] } else { 0 }
-}
-
 // Whether the kind of node j is known, its operands are there and its unused bytes are 0.
 fn is_formed(regions: &[u8], maps: &[u8], supplied: &[u8], nodes: &[u8], j: usize) -> bool
     requires { ⌜ j * 4 + 3 < 2 ^ 64 ⌝ }
@@ -97,8 +91,8 @@ fn region_of(maps: &[u8], supplied: &[u8], nodes: &[u8], earlier: &[usize], j: u
 {
     let node = node_at(nodes, j);
     let kind = node.kind;
-    let left = region_at(earlier, node.a);
-    let right = region_at(earlier, node.b);
+    let left = number_at(earlier, node.a);
+    let right = number_at(earlier, node.b);
     let source = byte_at(maps, node.b * 3);
     let target = byte_at(maps, node.b * 3 + 1);
     let own = byte_at(supplied, node.a * 2);
@@ -110,7 +104,7 @@ fn region_of(maps: &[u8], supplied: &[u8], nodes: &[u8], earlier: &[usize], j: u
         | ((kind == DIFFERENCE) & (left == right))
         | ((kind == IMAGE) & (left == source))
         | ((kind == PREIMAGE) & (left == target));
-    let region = region_at(&by_kind, kind);
+    let region = number_at(&by_kind, kind);
     NodeRegion { region, agrees }
 }
 

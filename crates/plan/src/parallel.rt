@@ -1,5 +1,4 @@
 // Which loops can run in parallel, by pairs of their accesses.
-use crate::bytes::byte_at;
 use crate::kinds::access_of;
 use crate::kinds::is_access;
 use crate::kinds::is_read;
@@ -8,23 +7,24 @@ use crate::kinds::is_write;
 use crate::kinds::opens_loop;
 use crate::lookup::flag_at;
 use crate::lookup::number_at;
-use crate::outcomes::require;
 use crate::statements::kind_at;
+use layout::bytes::byte_at;
+use layout::outcomes::require;
 use model::Access;
 use model::Outcome;
 use model::Refusal;
 ghost use mathlib.Core.Path.{_≡_};
+ghost use mathlib.Core.List.{List};
 ghost use Prim.Native.Nat.{ℕ, _/_, _<_, _≤_};
 ghost use lib.ListN.{length};
 ghost use Rattle.model.specs.Outcomes.{scan};
 ghost use Rattle.model.specs.Layout.{Plan, statementCount};
-ghost use Rattle.model.specs.Parallel.{accessOfLoop, conflicts, parallelizable, loopCheck, reducesThroughPointer};
-ghost use Rattle.plan.specs.Loops.{Within, accessAt, LoopsKnown, conflictFree, harmless, PointersKnown, pointerReduction};
+ghost use Rattle.model.specs.Parallel.{conflicts, parallelizable, loopCheck, reducesThroughPointer};
+ghost use Rattle.plan.specs.Loops.{Within, accessAt, LoopsKnown, apart, conflictFree, harmless, PointersKnown, pointerReduction};
 
-// What a statement accesses: how, in which loop, which region, through a centered variable or not, and with which operator.
+// What a statement accesses: how, which region, through a centered variable or not, and with which operator.
 pub struct LoopAccess {
     pub access: Access,
-    pub opened: usize,
     pub region: usize,
     pub centered: bool,
     pub operator: usize,
@@ -36,33 +36,22 @@ fn loop_access(
     operands: &[usize],
     variable_regions: &[usize],
     centered: &[bool],
-    loops: &[usize],
     s: usize,
 ) -> LoopAccess
     requires { ⌜ s < 64 ⌝ }
-    ensures { λ r. ⌜ ((P : Plan) → LoopsKnown P (now (statements .entry)) (now (operands .entry)) (now («variable_regions» .entry)) (now (centered .entry)) (now (loops .entry)) → s < statementCount P → r ≡ accessAt P s) ⌝ }
+    ensures { λ r. ⌜ ((P : Plan) (loops : List ℕ) → LoopsKnown P (now (statements .entry)) (now (operands .entry)) (now («variable_regions» .entry)) (now (centered .entry)) loops → s < statementCount P → r ≡ accessAt P s) ⌝ }
 {
     let operand = number_at(operands, s);
     let access = access_of(kind_at(statements, s));
-    let opened = number_at(loops, s);
     let region = number_at(variable_regions, operand);
     let through_centered = flag_at(centered, operand);
     let operator = byte_at(statements, s * 4 + 3);
     LoopAccess {
         access,
-        opened,
         region,
         centered: through_centered,
         operator,
     }
-}
-
-// Whether the access is one of the loop that statement f opens.
-fn is_of_loop(a: LoopAccess, f: usize) -> bool
-    ensures { λ r. ⌜ ((P : Plan) (s : ℕ) → a ≡ accessAt P s → r ≡ accessOfLoop P f s) ⌝ }
-{
-    let access = a.access;
-    is_access(access) & (a.opened == f)
 }
 
 // Whether access a forbids access b of the same loop.
@@ -75,6 +64,28 @@ fn conflict(a: LoopAccess, b: LoopAccess) -> bool
     let by_reduction = is_reduce(first) & (!a.centered & !same_reduction);
     let by_read = is_read(first) & (!a.centered & (is_write(second) | is_reduce(second)));
     (a.region == b.region) & (by_reduction | by_read)
+}
+
+// Whether access a leaves statement t alone: t stands in another loop than that of statement f, accesses nothing, or is not forbidden.
+fn is_apart(
+    statements: &[u8],
+    operands: &[usize],
+    variable_regions: &[usize],
+    centered: &[bool],
+    loops: &[usize],
+    f: usize,
+    a: LoopAccess,
+    t: usize,
+) -> bool
+    requires { ⌜ Within (now statements) t ⌝ }
+    ensures { λ r. ⌜ ((P : Plan) (s : ℕ) → LoopsKnown P (now (statements .entry)) (now (operands .entry)) (now («variable_regions» .entry)) (now (centered .entry)) (now (loops .entry)) → a ≡ accessAt P s → r ≡ apart P f s t) ⌝ }
+{
+    if number_at(loops, t) != f {
+        return true;
+    }
+    let b = loop_access(statements, operands, variable_regions, centered, t);
+    let access = b.access;
+    !is_access(access) | !conflict(a, b)
 }
 
 // Whether access a forbids no access of the loop that statement f opens.
@@ -92,8 +103,16 @@ fn is_conflict_free(
 {
     let mut t = 0;
     while t < statements.len() / 4 {
-        let b = loop_access(statements, operands, variable_regions, centered, loops, t);
-        if is_of_loop(b, f) & conflict(a, b) {
+        if !is_apart(
+            statements,
+            operands,
+            variable_regions,
+            centered,
+            loops,
+            f,
+            a,
+            t,
+        ) {
             return false;
         }
         t += 1;
@@ -118,7 +137,7 @@ fn is_harmless(
     if number_at(loops, s) != f {
         return true;
     }
-    let a = loop_access(statements, operands, variable_regions, centered, loops, s);
+    let a = loop_access(statements, operands, variable_regions, centered, s);
     let access = a.access;
     if !is_access(access) | a.centered {
         return true;

@@ -1,21 +1,33 @@
 // The records of a plan's sections, in order: the first refusal met is given.
-use crate::assignments::check_assignment_count;
 use crate::assignments::check_assignments;
-use crate::assignments::number_symbols;
-use crate::maps::check_maps;
 use crate::needs::check_needs;
 use crate::nodes::check_nodes;
 use crate::parallel::check_loops;
-use crate::regions::check_regions;
 use crate::statements::check_statements;
 use crate::steps::check_steps;
-use crate::supplied::check_supplied;
+use layout::maps::check_maps;
+use layout::regions::check_regions;
+use layout::supplied::check_supplied;
 use model::Outcome;
 ghost use mathlib.Core.Path.{_≡_};
 ghost use mathlib.Core.List.{[]};
+ghost use Prim.Native.Nat.{_/_, _≤_};
+ghost use lib.ListN.{length};
 ghost use Rattle.model.specs.Verdict.{recordsCheck};
-ghost use Rattle.plan.specs.Parts.{parts};
-ghost use Rattle.plan.specs.Sections.{Limits, StatementsKnown, NodesKnown, SymbolsKnown, fromStatements, fromLoops, fromAssignments, fromSteps};
+ghost use Rattle.model.specs.AcceptedPlans.{Limits};
+ghost use Rattle.layout.specs.Parts.{parts};
+ghost use Rattle.plan.specs.Tables.{loopParts};
+ghost use Rattle.plan.specs.Needs.{NeedsKnown};
+ghost use Rattle.plan.specs.Sections.{StatementsChecked, StatementsKnown, NodesKnown, fromStatements, fromNodes, fromAssignments, fromSteps};
+
+// The outcome of section 4 and its loops and, after a pass, the tables of the statements.
+struct CheckedStatements {
+    outcome: Outcome,
+    operands: [usize; 64],
+    regions: [usize; 64],
+    centered: [bool; 64],
+    loops: [usize; 64],
+}
 
 // Section 7 and the needs.
 fn check_from_steps(
@@ -26,12 +38,10 @@ fn check_from_steps(
     assignments: &[u8],
     steps: &[u8],
     operands: &[usize],
-    variable_regions: &[usize],
     centered: &[bool],
     loops: &[usize],
-    symbols: &[usize],
 ) -> Outcome
-    requires { ⌜ SymbolsKnown (parts [] (now maps) (now supplied) (now statements) (now nodes) (now assignments) (now steps)) (now operands) (now «variable_regions») (now centered) (now loops) (now symbols) ⌝ }
+    requires { ⌜ NeedsKnown (now statements) (now operands) (now centered) (now loops) ⌝ }
     ensures { λ r. ⌜ r ≡ fromSteps (parts [] (now (maps .entry)) (now (supplied .entry)) (now (statements .entry)) (now (nodes .entry)) (now (assignments .entry)) (now (steps .entry))) ⌝ }
 {
     match check_steps(maps, supplied, nodes, steps) {
@@ -46,7 +56,6 @@ fn check_from_steps(
         operands,
         centered,
         loops,
-        symbols,
     )
 }
 
@@ -67,12 +76,6 @@ fn check_from_assignments(
     requires { ⌜ NodesKnown (parts [] (now maps) (now supplied) (now statements) (now nodes) (now assignments) (now steps)) (now operands) (now «variable_regions») (now centered) (now loops) (now «node_regions») ⌝ }
     ensures { λ r. ⌜ r ≡ fromAssignments (parts [] (now (maps .entry)) (now (supplied .entry)) (now (statements .entry)) (now (nodes .entry)) (now (assignments .entry)) (now (steps .entry))) ⌝ }
 {
-    let mut symbols = [0usize; 64];
-    let count = number_symbols(statements, &mut symbols);
-    match check_assignment_count(assignments, count) {
-        Outcome::Pass => {}
-        Outcome::Refuse(refusal) => return Outcome::Refuse(refusal),
-    }
     match check_assignments(
         statements,
         assignments,
@@ -92,15 +95,13 @@ fn check_from_assignments(
         assignments,
         steps,
         operands,
-        variable_regions,
         centered,
         loops,
-        &symbols,
     )
 }
 
-// The loops, section 5 and what follows.
-fn check_from_loops(
+// Section 5 and what follows.
+fn check_from_nodes(
     regions: &[u8],
     maps: &[u8],
     supplied: &[u8],
@@ -114,12 +115,8 @@ fn check_from_loops(
     loops: &[usize],
 ) -> Outcome
     requires { ⌜ StatementsKnown (parts (now regions) (now maps) (now supplied) (now statements) (now nodes) (now assignments) (now steps)) (now operands) (now «variable_regions») (now centered) (now loops) ⌝ }
-    ensures { λ r. ⌜ r ≡ fromLoops (parts (now (regions .entry)) (now (maps .entry)) (now (supplied .entry)) (now (statements .entry)) (now (nodes .entry)) (now (assignments .entry)) (now (steps .entry))) ⌝ }
+    ensures { λ r. ⌜ r ≡ fromNodes (parts (now (regions .entry)) (now (maps .entry)) (now (supplied .entry)) (now (statements .entry)) (now (nodes .entry)) (now (assignments .entry)) (now (steps .entry))) ⌝ }
 {
-    match check_loops(statements, operands, variable_regions, centered, loops) {
-        Outcome::Pass => {}
-        Outcome::Refuse(refusal) => return Outcome::Refuse(refusal),
-    }
     let checked = check_nodes(regions, maps, supplied, nodes);
     let outcome = checked.outcome;
     match outcome {
@@ -142,6 +139,36 @@ fn check_from_loops(
     )
 }
 
+// Section 4, then the loops.
+fn check_statements_and_loops(regions: &[u8], maps: &[u8], statements: &[u8]) -> CheckedStatements
+    requires { ⌜ length (now statements) / 4 ≤ 64 ⌝ }
+    ensures { λ r. ⌜ StatementsChecked (loopParts (now (regions .entry)) (now (maps .entry)) (now (statements .entry))) r ⌝ }
+{
+    let mut operands = [0usize; 64];
+    let mut variable_regions = [0usize; 64];
+    let mut centered = [false; 64];
+    let mut loops = [0usize; 64];
+    let outcome = match check_statements(
+        regions,
+        maps,
+        statements,
+        &mut operands,
+        &mut variable_regions,
+        &mut centered,
+        &mut loops,
+    ) {
+        Outcome::Pass => check_loops(statements, &operands, &variable_regions, &centered, &loops),
+        Outcome::Refuse(refusal) => Outcome::Refuse(refusal),
+    };
+    CheckedStatements {
+        outcome,
+        operands,
+        regions: variable_regions,
+        centered,
+        loops,
+    }
+}
+
 // Section 4 and what follows.
 fn check_from_statements(
     regions: &[u8],
@@ -155,23 +182,17 @@ fn check_from_statements(
     requires { ⌜ Limits (parts (now regions) (now maps) (now supplied) (now statements) (now nodes) (now assignments) (now steps)) ⌝ }
     ensures { λ r. ⌜ r ≡ fromStatements (parts (now (regions .entry)) (now (maps .entry)) (now (supplied .entry)) (now (statements .entry)) (now (nodes .entry)) (now (assignments .entry)) (now (steps .entry))) ⌝ }
 {
-    let mut operands = [0usize; 64];
-    let mut variable_regions = [0usize; 64];
-    let mut centered = [false; 64];
-    let mut loops = [0usize; 64];
-    match check_statements(
-        regions,
-        maps,
-        statements,
-        &mut operands,
-        &mut variable_regions,
-        &mut centered,
-        &mut loops,
-    ) {
+    let checked = check_statements_and_loops(regions, maps, statements);
+    let outcome = checked.outcome;
+    match outcome {
         Outcome::Pass => {}
         Outcome::Refuse(refusal) => return Outcome::Refuse(refusal),
     }
-    check_from_loops(
+    let operands = checked.operands;
+    let variable_regions = checked.regions;
+    let centered = checked.centered;
+    let loops = checked.loops;
+    check_from_nodes(
         regions,
         maps,
         supplied,

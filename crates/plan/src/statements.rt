@@ -1,12 +1,12 @@
 // Section 4: the statements of the loops, checked in one pass.
-use crate::bytes::byte_at;
 use crate::kinds::defines_variable;
 use crate::kinds::kind_of;
 use crate::kinds::opens_loop;
 use crate::lookup::earlier_flag;
 use crate::lookup::earlier_number;
-use crate::outcomes::and_then;
-use crate::outcomes::require;
+use layout::bytes::byte_at;
+use layout::outcomes::and_then;
+use layout::outcomes::require;
 use model::Outcome;
 use model::Refusal;
 use model::StatementKind;
@@ -22,6 +22,12 @@ pub struct Variables {
     pub count: usize,
     pub definitions: [usize; 16],
 }
+
+// Before the first FOR there is none.
+const NO_VARIABLES: Variables = Variables {
+    count: 0,
+    definitions: [0; 16],
+};
 
 // The kind of a statement.
 pub fn kind_at(statements: &[u8], s: usize) -> StatementKind
@@ -232,10 +238,7 @@ pub fn check_statements(
     requires { ⌜ Fits (now statements) (now operands) (now «variable_regions») (now centered) (now loops) ⌝ }
     ensures { λ r. ⌜ StatementsRead (loopParts (now (regions .entry)) (now (maps .entry)) (now (statements .entry))) r (now (operands .exit)) (now («variable_regions» .exit)) (now (centered .exit)) (now (loops .exit)) ⌝ }
 {
-    let mut variables = Variables {
-        count: 0,
-        definitions: [0; 16],
-    };
+    let mut variables = NO_VARIABLES;
     let mut opened = 0;
     let mut s = 0;
     while s < statements.len() / 4 {

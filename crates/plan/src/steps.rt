@@ -1,18 +1,18 @@
 // Section 7: lemma steps.
-use crate::bytes::byte_at;
 use crate::lemmas::is_complete;
 use crate::lemmas::is_disjoint;
 use crate::lemmas::is_subset;
 use crate::lemmas::lemma_row;
 use crate::licences::is_licensed;
-use crate::outcomes::require;
+use layout::bytes::byte_at;
+use layout::outcomes::require;
 use model::Outcome;
 use model::Refusal;
 ghost use mathlib.Core.Path.{_≡_};
 ghost use mathlib.Core.List.{[]};
 ghost use Prim.Native.Nat.{_+_, _*_, _^_, _<_};
 ghost use Rattle.model.specs.Lemmas.{concludesSubset, concludesDisjoint, concludesComplete, inUse, stepFormed, stepCheck};
-ghost use Rattle.plan.specs.Parts.{parts};
+ghost use Rattle.layout.specs.Parts.{parts};
 ghost use Rattle.plan.specs.Steps.{StepRead, stepsCheck};
 
 // A record of section 7.
@@ -42,13 +42,14 @@ pub fn concludes_subset(steps: &[u8], t: usize, x: usize, y: usize) -> bool
     requires { ⌜ t * 5 + 4 < 2 ^ 64 ⌝ }
     ensures { λ r. ⌜ r ≡ concludesSubset (parts [] [] [] [] [] [] (now (steps .entry))) t x y ⌝ }
 {
-    let step = step_at(steps, t);
-    if (step.x == x) & (step.y == y) {
-        let conclusion = lemma_row(step.lemma).conclusion;
-        is_subset(conclusion)
-    } else {
-        false
+    if byte_at(steps, t * 5 + 1) != x {
+        return false;
     }
+    if byte_at(steps, t * 5 + 2) != y {
+        return false;
+    }
+    let conclusion = lemma_row(byte_at(steps, t * 5)).conclusion;
+    is_subset(conclusion)
 }
 
 // Whether step t concludes DISJ(x).
@@ -56,13 +57,11 @@ pub fn concludes_disjoint(steps: &[u8], t: usize, x: usize) -> bool
     requires { ⌜ t * 5 + 4 < 2 ^ 64 ⌝ }
     ensures { λ r. ⌜ r ≡ concludesDisjoint (parts [] [] [] [] [] [] (now (steps .entry))) t x ⌝ }
 {
-    let step = step_at(steps, t);
-    if step.x == x {
-        let conclusion = lemma_row(step.lemma).conclusion;
-        is_disjoint(conclusion)
-    } else {
-        false
+    if byte_at(steps, t * 5 + 1) != x {
+        return false;
     }
+    let conclusion = lemma_row(byte_at(steps, t * 5)).conclusion;
+    is_disjoint(conclusion)
 }
 
 // Whether step t concludes COMP(x).
@@ -70,13 +69,11 @@ pub fn concludes_complete(steps: &[u8], t: usize, x: usize) -> bool
     requires { ⌜ t * 5 + 4 < 2 ^ 64 ⌝ }
     ensures { λ r. ⌜ r ≡ concludesComplete (parts [] [] [] [] [] [] (now (steps .entry))) t x ⌝ }
 {
-    let step = step_at(steps, t);
-    if step.x == x {
-        let conclusion = lemma_row(step.lemma).conclusion;
-        is_complete(conclusion)
-    } else {
-        false
+    if byte_at(steps, t * 5 + 1) != x {
+        return false;
     }
+    let conclusion = lemma_row(byte_at(steps, t * 5)).conclusion;
+    is_complete(conclusion)
 }
 
 // A number that is used is below its bound; one that is not is 0.

@@ -114,15 +114,16 @@ pub fn read(plan: &Plan) -> Result<Loops, Refusal> {
     let mut loops = Loops { symbols: 0, symbol_regions: [0; limit::STATEMENTS], needs_disjoint: 0 };
     let mut tangled = None;
     let mut open: Option<Open> = None;
-    for (record, &bytes) in plan.statements.iter().enumerate() {
+    for (number, &bytes) in plan.statements.iter().enumerate() {
+        let record = Record { number, bytes };
         if bytes[0] == statement::FOR {
             if let Some(open) = &open {
                 close(open, &mut loops, &mut tangled);
             }
-            open = Some(read_for(plan, record, bytes, &mut loops)?);
+            open = Some(read_for(plan, record, &mut loops)?);
         } else {
-            let open = open.as_mut().ok_or(invalid(4, record))?;
-            read_statement(plan, open, record, bytes, &mut loops)?;
+            let open = open.as_mut().ok_or(record.invalid())?;
+            read_statement(plan, open, record, &mut loops)?;
         }
     }
     if let Some(open) = &open {
@@ -148,69 +149,69 @@ impl Loops {
     }
 }
 
-fn read_for(
-    plan: &Plan,
-    record: usize,
-    [_, region, b, c]: [u8; 4],
-    loops: &mut Loops,
-) -> Result<Open, Refusal> {
+/// A record of section 4 and its number.
+#[derive(Clone, Copy)]
+struct Record {
+    number: usize,
+    bytes: [u8; 4],
+}
+
+impl Record {
+    #[inline]
+    fn invalid(self) -> Refusal {
+        invalid(4, self.number)
+    }
+}
+
+fn read_for(plan: &Plan, record: Record, loops: &mut Loops) -> Result<Open, Refusal> {
+    let [_, region, b, c] = record.bytes;
     if usize::from(region) >= plan.regions.len() || b != 0 || c != 0 {
-        return Err(invalid(4, record));
+        return Err(record.invalid());
     }
     loops.add_symbol(region);
-    Ok(Open::new(record, region))
+    Ok(Open::new(record.number, region))
 }
 
 #[inline]
-fn read_statement(
-    plan: &Plan,
-    open: &mut Open,
-    record: usize,
-    [kind, a, b, c]: [u8; 4],
-    loops: &mut Loops,
-) -> Result<(), Refusal> {
+fn read_statement(plan: &Plan, open: &mut Open, record: Record, loops: &mut Loops) -> Result<(), Refusal> {
+    let [kind, a, b, c] = record.bytes;
     match kind {
-        statement::LOAD | statement::CALL => read_entry(plan, open, record, [kind, a, b, c], loops),
+        statement::LOAD | statement::CALL => read_entry(plan, open, record, loops),
         statement::COPY => {
-            let region = open.region(a).ok_or(invalid(4, record))?;
+            let region = open.region(a).ok_or(record.invalid())?;
             if open.variables == limit::VARIABLES || b != 0 || c != 0 {
-                return Err(invalid(4, record));
+                return Err(record.invalid());
             }
             open.define(region, open.is_centered(a));
             Ok(())
         }
         statement::READ..=statement::REDUCE => {
-            let region = open.region(a).ok_or(invalid(4, record))?;
+            let region = open.region(a).ok_or(record.invalid())?;
             let last = if kind == statement::REDUCE { 3 } else { 0 };
             if b >= plan.regions[usize::from(region)] || c > last {
-                return Err(invalid(4, record));
+                return Err(record.invalid());
             }
             open.access(kind, a, region, c);
             loops.add_symbol(region);
             Ok(())
         }
-        _ => Err(invalid(4, record)),
+        _ => Err(record.invalid()),
     }
 }
 
 /// LOAD and CALL.
 #[inline]
-fn read_entry(
-    plan: &Plan,
-    open: &mut Open,
-    record: usize,
-    [kind, a, b, c]: [u8; 4],
-    loops: &mut Loops,
-) -> Result<(), Refusal> {
-    let region = open.region(b).ok_or(invalid(4, record))?;
-    let &[source, target, _] = plan.maps.get(usize::from(a)).ok_or(invalid(4, record))?;
+fn read_entry(plan: &Plan, open: &mut Open, record: Record, loops: &mut Loops) -> Result<(), Refusal> {
+    let [kind, a, b, c] = record.bytes;
+    let region = open.region(b).ok_or(record.invalid())?;
+    let &[source, target, _] = plan.maps.get(usize::from(a)).ok_or(record.invalid())?;
     let loads = kind == statement::LOAD;
     let last = if loads { plan.regions[usize::from(region)] - 1 } else { 0 };
     if open.variables == limit::VARIABLES || c > last {
-        return Err(invalid(4, record));
+        return Err(record.invalid());
     }
     if region != source {
-        return Err(mismatch(4, record));
+        return Err(mismatch(4, record.number));
     }
     if loads {
         open.access(kind, b, region, 0);

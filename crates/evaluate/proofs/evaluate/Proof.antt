@@ -1,6 +1,6 @@
 use mathlib.Core.Path.{ap}
 use borrow.Author.Needs.{needs}
-use Rattle.evaluate.proofs.Stages.{plan-ready, promise-accepted, promise-refused}
+use Rattle.evaluate.proofs.Stages.{promise-accepted, promise-refused}
 use Rattle.evaluate.proofs.evaluate.Statement.{statement}
 use Rattle.evaluate.proofs.evaluate.Tie as tie
 
@@ -14,7 +14,7 @@ enum-told c = search needs
 
 -- src/lib.rt:38:22
 fill-plan-requires : tie.Need-fill-plan-requires
-fill-plan-requires c κs = plan-ready (c .before .before .before .before .read .ensures) (c .before .enum-told .given .1)
+fill-plan-requires c κs = c .before .before .before .read .ensures .accepted _ _ _ (c .before .enum-told .given .1)
 
 -- src/lib.rt:38:13
 conclude-requires : tie.Need-conclude-requires
@@ -30,11 +30,11 @@ same-length c = search needs
 
 -- src/lib.rt:30:1
 returns : tie.Need-returns
-returns c = promise-accepted _ _ (ap (λ r. r .answer) (c .before .before .before .before .before .before .before .before .read .ensures)) (c .before .before .before .before .before .enum-told .given .1) (c .before .before .before .fill-plan .ensures) (c .conclude .ensures)
+returns c = promise-accepted _ _ (ap (λ r. r .answer) (c .before .before .before .before .before .before .before .read .ensures .reading)) (c .before .before .before .before .before .enum-told .given .1) (c .before .before .before .fill-plan .ensures) (c .conclude .ensures)
 
 -- src/lib.rt:30:1
 returns-2 : tie.Need-returns-2
-returns-2 c = promise-refused _ _ (ap (λ r. r .answer) (c .before .before .before .before .read .ensures)) (c .before .answer .given .1)
+returns-2 c = promise-refused _ _ (ap (λ r. r .answer) (c .before .before .before .read .ensures .reading)) (c .before .answer .given .1)
 
 pub evaluate-spec : {M : Type 1} → statement M
 evaluate-spec =

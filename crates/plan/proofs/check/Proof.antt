@@ -9,7 +9,7 @@ read-requires : tie.Need-read-requires
 read-requires c κs = search needs
 
 returns : tie.Need-returns
-returns c = check-promise _ _ (ap (λ r. r .answer) (c .read .ensures))
+returns c = check-promise _ _ (ap (λ r. r .answer) (c .read .ensures .reading))
 
 pub check-spec : {M : Type 1} → statement M
 check-spec = tie.close (tie.spec read-requires returns)

@@ -67,7 +67,7 @@ part-fill-sections-end-4 c = search needs
 -- src/accepted.rt:129:5
 fill-sections-requires : tie.Need-fill-sections-requires
 fill-sections-requires c κs =
-    let ready = c .before .before .before .before .before .before .before .before .before .before .before .pre in
+    let ready = c .before .before .before .before .before .before .before .before .before .before .before .before .pre in
     record { plan = planOf _; regions-are = plan-regions ready; sections = plan-sections ready }
 
 -- src/accepted.rt:118:1
@@ -76,7 +76,7 @@ same-length c = search needs
 
 -- src/accepted.rt:118:1
 returns : tie.Need-returns
-returns c = let ready = c .before .before .before .before .before .before .before .before .before .before .before .before .before .before .pre in c .before .before .fill-sections .ensures (planOf _) (plan-regions ready) (plan-sections ready)
+returns c = let ready = c .before .before .before .before .before .before .before .before .before .before .before .before .before .before .before .pre in c .before .before .fill-sections .ensures (planOf _) (plan-regions ready) (plan-sections ready)
 
 pub fill-plan-spec : {M : Type 1} → statement M
 fill-plan-spec =

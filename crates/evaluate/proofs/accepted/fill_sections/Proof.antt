@@ -13,8 +13,8 @@ enum-told : tie.Need-enum-told
 enum-told c = search needs
 
 -- src/accepted.rt:112:26
-fill-room-requires : tie.Need-fill-room-requires
-fill-room-requires c κs =
+fill-lent-requires : tie.Need-fill-lent-requires
+fill-lent-requires c κs =
     let ready = c .before .before .before .before .before .before .before .before .before .before .pre in
     let read = read-as (ready .plan) _ (ready .regions-are) (ready .sections) (c .before .before .before .read-data .ensures) in
     record { plan = ready .plan; held = record { sections = ready .sections; fits = sym (ap (λ r. r .outcome) read) ∙ c .before .enum-told .given .1; read = read } }
@@ -33,7 +33,7 @@ returns c =
     λ P regions-are S. let read = read-as P _ regions-are S (c .before .before .before .before .before .before .read-data .ensures) in
     let checked = ap (λ r. r .outcome) read in
     let pass = c .before .before .before .before .enum-told .given .1 in
-    data-fits P _ checked pass (c .before .before .fill-room .ensures P (record { sections = S; fits = sym checked ∙ pass; read = read }))
+    data-fits P _ checked pass (c .before .before .fill-lent .ensures P (record { sections = S; fits = sym checked ∙ pass; read = read }))
 
 -- src/accepted.rt:98:1
 returns-2 : tie.Need-returns-2
@@ -47,7 +47,7 @@ fill-sections-spec =
     (tie.spec
     read-data-requires
     enum-told
-    fill-room-requires
+    fill-lent-requires
     enum-known-outcome
     same-length
     returns

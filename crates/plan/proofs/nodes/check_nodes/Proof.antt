@@ -5,7 +5,7 @@ use mathlib.Core.List.{[]}
 use native.Mathlib.Omega.{arith}
 use Rattle.model.proofs.Outcomes.{never, scan-start, scan-next, scan-stop, scan-end}
 use Rattle.model.proofs.Recursion.{below-at}
-use Rattle.plan.specs.Parts.{parts}
+use Rattle.layout.specs.Parts.{parts}
 use Rattle.plan.proofs.Tables.{none-filled, next-filled}
 use Rattle.plan.proofs.NodeLaws.{Reading}
 use borrow.Author.Needs.{needs}

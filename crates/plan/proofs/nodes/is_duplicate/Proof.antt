@@ -6,7 +6,7 @@ use mathlib.Core.List.{[]}
 use Rattle.model.specs.Tests.{any}
 use Rattle.model.specs.Nodes.{sameNode, duplicateNode}
 use Rattle.model.proofs.Tests.{among}
-use Rattle.plan.specs.Parts.{parts}
+use Rattle.layout.specs.Parts.{parts}
 use Rattle.plan.proofs.Searches.{none-before, none-next, none-at-end}
 use borrow.Author.Needs.{needs}
 use Rattle.plan.proofs.nodes.is_duplicate.Statement.{statement}

@@ -13,13 +13,13 @@ unfolding nodeRegion nodeRegionStep nodeRegionRows nodeAgrees nodeAgreesRows any
 returns c =
     let known = c .before .before .before .before .before .before .before .before .before .before .before .before .before .before .before .pre in
     let node = node-is (c .before .before .before .before .before .before .before .before .before .before .node-at .ensures) in
-    let left = c .before .before .before .before .before .before .before .before .before .region-at .ensures in
+    let left = c .before .before .before .before .before .before .before .before .before .number-at .ensures in
     let from = c .before .before .before .before .before .before .byte-at .ensures .0 in
     let to = c .before .before .before .before .byte-at2 .ensures .0 in
     let rows = agrees-rows known in
     record {
-      region = region-read known node left from to (c .before .before .byte-at3 .ensures .0) (c .region-at3 .ensures);
-      agrees = rw (to, from, c .before .before .before .before .before .before .before .before .region-at2 .ensures, left, node) (simp and-true at rows);
+      region = region-read known node left from to (c .before .before .byte-at3 .ensures .0) (c .number-at3 .ensures);
+      agrees = rw (to, from, c .before .before .before .before .before .before .before .before .number-at2 .ensures, left, node) (simp and-true at rows);
     }
 
 pub region-of-spec : {M : Type 1} → statement M

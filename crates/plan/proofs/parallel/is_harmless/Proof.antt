@@ -26,7 +26,7 @@ in-loop : (m : tie.Else1) (P : Plan) → Known (m .before .before .before .befor
 in-loop m P known = sym (loop-is (m .before) P known) ∙ m .if1 .left
 
 access-is : (m : tie.After-loop-access) (P : Plan) → Known (m .before .before .before .before .before .before .before .before) P → m .loop-access .result ≡ accessAt P (m .before .before .before .before .before .before .before .before .args .s)
-access-is m P known = m .loop-access .ensures P known (inside (m .before .before .before .before .before .before .before .before) P known)
+access-is m P known = m .loop-access .ensures P _ known (inside (m .before .before .before .before .before .before .before .before) P known)
 
 quiet-is : (m : tie.After-struct-known) (P : Plan) → Known (m .before .before .before .before .before .before .before .before .before .before) P
     → not (m .before .is-access .result) || m .before .before .loop-access .result .centered ≡ not (accesses P (m .before .before .before .before .before .before .before .before .before .before .args .s)) || centered P (operandDefinition P (m .before .before .before .before .before .before .before .before .before .before .args .s))

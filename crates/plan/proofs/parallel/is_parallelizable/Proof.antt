@@ -1,7 +1,7 @@
 -- All before s are harmless; the first that is not decides. Assumes nothing.
 use denote.Ref.{now}
 use Prim.Native.Nat.{_-_, _/_, _≤_, _<_}
-use mathlib.Core.Path.{_≡_, sym, _∙_}
+use mathlib.Core.Path.{sym, _∙_}
 use lib.ListN.{length}
 use borrow.Author.Tests.{not-true, not-false}
 use Rattle.model.specs.Tests.{Is, every}

@@ -1,7 +1,7 @@
 -- The steps' check, then the needs': each reads only the sections it is handed. Assumes nothing.
 use mathlib.Core.Path.{sym, _∙_}
 use Rattle.plan.proofs.Stages.{stage-passed, stage-refused}
-use Rattle.plan.proofs.Handed.{steps-handed, needs-handed, needs-known}
+use Rattle.plan.proofs.Handed.{steps-handed, needs-handed}
 use borrow.Author.Needs.{needs}
 use Rattle.plan.proofs.records.check_from_steps.Statement.{statement}
 use Rattle.plan.proofs.records.check_from_steps.Tie as tie
@@ -25,9 +25,7 @@ returns c =
     sym (stage-refused _ (steps .check-steps .ensures ∙ steps-handed _ _ _ _ _ _ _) (c .before .refusal .given .1))
 
 check-needs-requires : tie.Need-check-needs-requires
-check-needs-requires c κs =
-    let start = c .before .before .before .before .before .before .before .before .before .before .before .before .before .before in
-    needs-known _ _ _ _ _ _ _ (start .pre)
+check-needs-requires c κs = search needs
 
 returns-2 : tie.Need-returns-2
 returns-2 c =

@@ -7,10 +7,10 @@ use Rattle.plan.proofs.records.check_records.Statement.{statement}
 use Rattle.plan.proofs.records.check_records.Tie as tie
 use Rattle.plan.proofs.records.check_records.Reads as reads
 use Rattle.plan.proofs.records.check_records.Lts as lts
-use Rattle.plan.proofs.maps.check_maps.Reads as check-maps-reads
+use Rattle.layout.proofs.maps.check_maps.Reads as check-maps-reads
 use Rattle.plan.proofs.records.check_from_statements.Reads as check-from-statements-reads
-use Rattle.plan.proofs.regions.check_regions.Reads as check-regions-reads
-use Rattle.plan.proofs.supplied.check_supplied.Reads as check-supplied-reads
+use Rattle.layout.proofs.regions.check_regions.Reads as check-regions-reads
+use Rattle.layout.proofs.supplied.check_supplied.Reads as check-supplied-reads
 
 check-regions-requires : tie.Need-check-regions-requires
 check-regions-requires c κs = search needs

@@ -3,7 +3,7 @@ use Prim.Native.Nat.{_-_}
 use mathlib.Core.Path.{refl, sym, _∙_}
 use mathlib.Core.List.{[]}
 use Rattle.model.proofs.Outcomes.{scan-start, scan-next, scan-stop, scan-end}
-use Rattle.plan.specs.Parts.{parts}
+use Rattle.layout.specs.Parts.{parts}
 use Rattle.plan.proofs.StepLaws.{Reading}
 use borrow.Author.Needs.{needs}
 use Rattle.plan.proofs.steps.check_steps.Statement.{statement}

@@ -1,0 +1,4 @@
+pub mod Bits
+pub mod ByteOrder
+pub mod Elements
+pub mod Tables

@@ -1,0 +1,141 @@
+// Sets of elements in words: masks, and the bits of a word or of a piece's eight words set, tested and combined.
+use layout::bytes::byte_at;
+ghost use mathlib.Core.Path.{_≡_};
+ghost use Prim.Native.Nat.{_+_, _^_, _≤_, _<_};
+ghost use lib.Count.{trailingZeros};
+ghost use lib.ListN.{length};
+ghost use Rattle.model.specs.Tests.{_and_, _<?_};
+ghost use Rattle.model.specs.Words.{digit, holds, number, word, store};
+ghost use Rattle.bitsets.specs.Elements.{upTo, between, adding, combinedBits, twoBytes, bytesBits, exchangedBits, LowerPlaces, reversedBits, Masks};
+
+// Word w of the elements below a number.
+pub fn word_below(count: usize, w: usize) -> u64
+    requires { ⌜ w < 8 ⌝ }
+    ensures { λ r. ⌜ r ≡ word (upTo count) w ⌝ }
+{
+    let first = 64 * w;
+    if count <= first {
+        return 0;
+    }
+    if count - first >= 64 {
+        return 0xFFFF_FFFF_FFFF_FFFF;
+    }
+    (1 << (count - first)) - 1
+}
+
+// Word w of the elements from low up to, not including, high.
+pub fn word_between(low: usize, high: usize, w: usize) -> u64
+    requires { ⌜ w < 8 ⌝ }
+    ensures { λ r. ⌜ r ≡ word (between low high) w ⌝ }
+{
+    word_below(high, w) & !word_below(low, w)
+}
+
+// One word of a union (kind 2), an intersection (3) or a difference (4), its elements those of a mask.
+pub fn combine(kind: usize, x: u64, y: u64) -> u64
+    ensures { λ r. ⌜ r ≡ number 64 (combinedBits kind x y) ⌝ }
+{
+    if kind == 2 {
+        x | y
+    } else if kind == 3 {
+        x & y
+    } else {
+        x & !y
+    }
+}
+
+// The eight words of a region's elements.
+pub fn region_masks(size: usize) -> [u64; 8]
+    ensures { λ r. ⌜ Masks size r ⌝ }
+{
+    let mut masks = [0; 8];
+    let mut w = 0;
+    while w < 8 {
+        masks[w] = word_below(size, w);
+        w += 1;
+    }
+    masks
+}
+
+// The byte as a word.
+fn wide(x: u8) -> u64
+    ensures { λ r. ⌜ (r ≡ x) × (r < 256) ⌝ }
+{
+    x as u64
+}
+
+// The two bytes at a place as a word, the first lower.
+fn two_bytes(s: &[u8], at: usize) -> u64
+    requires { ⌜ at + 2 ≤ length (now s) ⌝ }
+    ensures { λ r. ⌜ (r ≡ twoBytes (now (s .entry)) at) × (r < 65536) ⌝ }
+{
+    wide(s[at + 1]) * 256 + wide(s[at])
+}
+
+// The eight bytes at a place as a word, the first lowest; bytes past the end are 0.
+fn last_bytes(s: &[u8], at: usize) -> u64
+    requires { ⌜ at < 2 ^ 32 ⌝ }
+    ensures { λ r. ⌜ r ≡ number 64 (bytesBits (now (s .entry)) at) ⌝ }
+{
+    let mut result = 0;
+    let mut i = 8;
+    while i > 0 {
+        i -= 1;
+        result = result * 256 + byte_at(s, at + i) as u64;
+    }
+    result
+}
+
+// The same, by one read where all eight are there.
+pub fn eight_bytes(s: &[u8], at: usize) -> u64
+    requires { ⌜ at < 2 ^ 32 ⌝ }
+    ensures { λ r. ⌜ r ≡ number 64 (bytesBits (now (s .entry)) at) ⌝ }
+{
+    if at + 8 > s.len() {
+        return last_bytes(s, at);
+    }
+    let high = two_bytes(s, at + 6) * 65536 + two_bytes(s, at + 4);
+    let low = two_bytes(s, at + 2) * 65536 + two_bytes(s, at);
+    high * 4294967296 + low
+}
+
+// The bits at the mask's places exchanged with those so many places higher.
+fn exchange(x: u64, mask: u64, by: u64) -> u64
+    requires { ⌜ LowerPlaces mask by ⌝ }
+    ensures { λ r. ⌜ r ≡ number 64 (exchangedBits mask by x) ⌝ }
+{
+    ((x >> by) & mask) | ((x & mask) << by)
+}
+
+// The bits of each byte in reverse order.
+pub fn reverse_bytes(x: u64) -> u64
+    ensures { λ r. ⌜ r ≡ number 64 (reversedBits x) ⌝ }
+{
+    let y = exchange(x, 0x5555_5555_5555_5555, 1);
+    let z = exchange(y, 0x3333_3333_3333_3333, 2);
+    exchange(z, 0x0F0F_0F0F_0F0F_0F0F, 4)
+}
+
+// The place of a word's lowest member; 64 where it has none.
+pub fn lowest(word: u64) -> usize
+    ensures { λ r. ⌜ r ≡ trailingZeros 64 word ⌝ }
+{
+    u64::trailing_zeros(word) as usize
+}
+
+// Whether the piece at word `at` holds element e, if that is below its region's size: 1 or 0.
+pub fn test(words: &[u64], at: usize, size: usize, e: usize) -> u64
+    requires { ⌜ (at + 8 ≤ length (now words)) × (size ≤ 512) ⌝ }
+    ensures { λ r. ⌜ r ≡ digit (e <? size and holds (now (words .entry)) at e) ⌝ }
+{
+    (words[at + e / 64 % 8] >> (e % 64)) & (e < size) as u64
+}
+
+// Puts element e into the piece at word `at`; one that no piece has room for changes nothing.
+pub fn add(words: &mut [u64], at: usize, e: usize)
+    requires { ⌜ at + 8 ≤ length (now words) ⌝ }
+    ensures { λ _. ⌜ now (words .exit) ≡ store (now (words .entry)) at 8 (word (adding e (holds (now (words .entry)) at))) ⌝ }
+{
+    let i = at + e / 64 % 8;
+    words[i] = words[i] | (((e < 512) as u64) << (e % 64));
+}

@@ -1,0 +1,16 @@
+-- The frame's last end is the last boundary. Assumes nothing.
+use borrow.Author.Needs.{needs}
+use Rattle.model.specs.Tests.{_and_, _==_}
+use Rattle.dataset.specs.Framing.{laidOut}
+use Rattle.dataset.proofs.data.is_laid_out.Statement.{statement}
+use Rattle.dataset.proofs.data.is_laid_out.Tie as tie
+
+byte-at-requires : tie.Need-byte-at-requires
+byte-at-requires c κs = search needs
+
+returns : tie.Need-returns
+unfolding laidOut _and_ _==_
+returns c = rw (c .before .byte-at .ensures .0, c .before .before .before .pre)
+
+pub is-laid-out-spec : {M : Type 1} → statement M
+is-laid-out-spec = tie.close (tie.spec byte-at-requires returns)

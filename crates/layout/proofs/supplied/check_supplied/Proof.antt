@@ -1,0 +1,63 @@
+-- Before each partition, what is left to check decides the outcome (Scanning). Assumes nothing.
+use Prim.Native.Nat.{_-_, _/_}
+use mathlib.Core.List.{[]}
+use lib.ListN.{length}
+use borrow.Author.Needs.{needs}
+use Rattle.model.specs.Verdict.{suppliedCheck}
+use Rattle.layout.specs.Parts.{parts}
+use Rattle.layout.proofs.Scanning.{Scanning, scanning-start, scanning-next, scanning-refused, scanning-end}
+use Rattle.layout.proofs.supplied.check_supplied.Tie as tie
+use Rattle.layout.proofs.supplied.check_supplied.Statement.{statement}
+
+abbrev Inv-loop : tie.InvT-loop
+Inv-loop regions supplied partition₀ partition = Scanning (suppliedCheck (parts regions [] supplied [] [] [] [])) (length supplied / 2) partition
+
+abbrev μ-loop : tie.MeasureT-loop
+μ-loop regions supplied partition₀ partition = length supplied / 2 - partition
+
+loop-holds : tie.Need-loop-holds Inv-loop μ-loop
+loop-holds c = scanning-start _ _
+
+check-partition-requires : tie.Need-check-partition-requires Inv-loop μ-loop
+check-partition-requires c κs = search needs
+
+enum-told : tie.Need-enum-told Inv-loop μ-loop
+enum-told c = search needs
+
+enum-known-refusal : tie.Need-enum-known-refusal Inv-loop μ-loop
+enum-known-refusal c = search needs
+
+returns : tie.Need-returns Inv-loop μ-loop
+returns c =
+    let m = c .before .before .before in
+    scanning-refused (m .before .before .loop .inv) (m .before .loop-test .taken) (m .check-partition .ensures) (c .before .refusal .given .1)
+
+add-partition : tie.Need-add-partition Inv-loop μ-loop
+add-partition c = search needs
+
+loop-less : tie.Need-loop-less Inv-loop μ-loop
+loop-less c = search needs
+
+loop-again : tie.Need-loop-again Inv-loop μ-loop
+loop-again c =
+    let m = c .before .before in
+    scanning-next (m .before .before .loop .inv) (m .before .loop-test .taken) (m .check-partition .ensures) (c .enum-told .given .1)
+
+returns-2 : tie.Need-returns-2 Inv-loop μ-loop
+returns-2 c = scanning-end (c .before .loop .inv) (c .loop-test .left)
+
+pub check-supplied-spec : {M : Type 1} → statement M
+check-supplied-spec =
+    tie.close
+    (tie.spec
+    Inv-loop
+    μ-loop
+    loop-holds
+    check-partition-requires
+    enum-told
+    enum-known-refusal
+    returns
+    add-partition
+    loop-less
+    loop-again
+    returns-2)

@@ -1,0 +1,42 @@
+// Section 2, maps: "source region, target region, 0 partial or 1 total".
+use crate::bytes::byte_at;
+use crate::outcomes::require;
+use model::Outcome;
+use model::Refusal;
+ghost use mathlib.Core.Path.{_≡_};
+ghost use mathlib.Core.List.{[]};
+ghost use Prim.Native.Nat.{_<_, _/_};
+ghost use lib.ListN.{length};
+ghost use Rattle.model.specs.Verdict.{mapCheck};
+ghost use Rattle.layout.specs.Parts.{parts};
+ghost use Rattle.layout.specs.Declarations.{mapsCheck};
+
+// Whether a map leads from a region to a region and is partial or total.
+fn check_map(regions: &[u8], maps: &[u8], map: usize) -> Outcome
+    requires { ⌜ map < length (now maps) / 3 ⌝ }
+    ensures { λ r. ⌜ r ≡ mapCheck (parts (now (regions .entry)) (now (maps .entry)) [] [] [] [] []) map ⌝ }
+{
+    let source = byte_at(maps, map * 3);
+    let target = byte_at(maps, map * 3 + 1);
+    let totality = byte_at(maps, map * 3 + 2);
+    let count = regions.len();
+    require(
+        (source < count) & ((target < count) & (totality <= 1)),
+        Refusal::InvalidRecord(2 * 256 + map),
+    )
+}
+
+// The records of section 2, in order.
+pub fn check_maps(regions: &[u8], maps: &[u8]) -> Outcome
+    ensures { λ r. ⌜ r ≡ mapsCheck (parts (now (regions .entry)) (now (maps .entry)) [] [] [] [] []) ⌝ }
+{
+    let mut map = 0;
+    while map < maps.len() / 3 {
+        match check_map(regions, maps, map) {
+            Outcome::Pass => {}
+            Outcome::Refuse(refusal) => return Outcome::Refuse(refusal),
+        }
+        map += 1;
+    }
+    Outcome::Pass
+}

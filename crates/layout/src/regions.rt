@@ -1,0 +1,39 @@
+// Section 1, regions: "number of fields, 1 to 8".
+use crate::bytes::byte_at;
+use crate::outcomes::require;
+use model::Outcome;
+use model::Refusal;
+ghost use mathlib.Core.Path.{_≡_};
+ghost use mathlib.Core.List.{[]};
+ghost use Prim.Native.Nat.{_<_};
+ghost use lib.ListN.{length};
+ghost use Rattle.model.specs.Verdict.{regionCheck};
+ghost use Rattle.layout.specs.Parts.{parts};
+ghost use Rattle.layout.specs.Declarations.{regionsCheck};
+
+// Whether a region has 1 to 8 fields.
+fn check_region(regions: &[u8], region: usize) -> Outcome
+    requires { ⌜ region < length (now regions) ⌝ }
+    ensures { λ r. ⌜ r ≡ regionCheck (parts (now (regions .entry)) [] [] [] [] [] []) region ⌝ }
+{
+    let fields = byte_at(regions, region);
+    require(
+        (1 <= fields) & (fields <= 8),
+        Refusal::InvalidRecord(1 * 256 + region),
+    )
+}
+
+// The records of section 1, in order.
+pub fn check_regions(regions: &[u8]) -> Outcome
+    ensures { λ r. ⌜ r ≡ regionsCheck (parts (now (regions .entry)) [] [] [] [] [] []) ⌝ }
+{
+    let mut region = 0;
+    while region < regions.len() {
+        match check_region(regions, region) {
+            Outcome::Pass => {}
+            Outcome::Refuse(refusal) => return Outcome::Refuse(refusal),
+        }
+        region += 1;
+    }
+    Outcome::Pass
+}

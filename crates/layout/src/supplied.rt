@@ -1,0 +1,40 @@
+// Section 3, supplied partitions: "region, flags: 1 disjoint, 2 complete, 3 both, 0 neither".
+use crate::bytes::byte_at;
+use crate::outcomes::require;
+use model::Outcome;
+use model::Refusal;
+ghost use mathlib.Core.Path.{_≡_};
+ghost use mathlib.Core.List.{[]};
+ghost use Prim.Native.Nat.{_<_, _/_};
+ghost use lib.ListN.{length};
+ghost use Rattle.model.specs.Verdict.{suppliedCheck};
+ghost use Rattle.layout.specs.Parts.{parts};
+ghost use Rattle.layout.specs.Declarations.{partitionsCheck};
+
+// Whether a supplied partition is of a region and its flags are known.
+fn check_partition(regions: &[u8], supplied: &[u8], partition: usize) -> Outcome
+    requires { ⌜ partition < length (now supplied) / 2 ⌝ }
+    ensures { λ r. ⌜ r ≡ suppliedCheck (parts (now (regions .entry)) [] (now (supplied .entry)) [] [] [] []) partition ⌝ }
+{
+    let region = byte_at(supplied, partition * 2);
+    let flags = byte_at(supplied, partition * 2 + 1);
+    require(
+        (region < regions.len()) & (flags <= 3),
+        Refusal::InvalidRecord(3 * 256 + partition),
+    )
+}
+
+// The records of section 3, in order.
+pub fn check_supplied(regions: &[u8], supplied: &[u8]) -> Outcome
+    ensures { λ r. ⌜ r ≡ partitionsCheck (parts (now (regions .entry)) [] (now (supplied .entry)) [] [] [] []) ⌝ }
+{
+    let mut partition = 0;
+    while partition < supplied.len() / 2 {
+        match check_partition(regions, supplied, partition) {
+            Outcome::Pass => {}
+            Outcome::Refuse(refusal) => return Outcome::Refuse(refusal),
+        }
+        partition += 1;
+    }
+    Outcome::Pass
+}

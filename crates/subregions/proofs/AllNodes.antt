@@ -1,0 +1,115 @@
+-- All nodes, one after the other: the words before a node hold the members of the nodes before it, so that it is filled with its own.
+-- Assumes nothing.
+use Prim.Native.Nat.{ℕ, _+_, _*_, _/_, _%_, _≤_, _<_}
+use mathlib.Core.Path.{_≡_, refl, sym, ap, ap₂, _∙_, fun-ext}
+use mathlib.Core.Logic.{inl, inr}
+use mathlib.Core.Bool.{Bool}
+use mathlib.Core.List.{List}
+use native.Mathlib.Nat.{mul-le-mul-right, suc-mul}
+use native.Mathlib.Omega.{arith}
+use lib.ListN.{length, getD}
+use Rattle.model.specs.Tests.{Is, _and_, _or_, non, any, _<?_}
+use Rattle.model.specs.Partitions.{Partition, union, intersection, difference, image, preimage}
+use Rattle.model.specs.Layout.{Plan, nodeCount, source, target, nodeKind, nodeA, nodeB}
+use Rattle.model.specs.Nodes.{SUPPLIED, EQUAL, UNION, INTERSECTION, DIFFERENCE, IMAGE, PREIMAGE, nodeRegion}
+use Rattle.model.specs.DataSets.{DataSet, pieces, size, leads}
+use Rattle.model.specs.Membership.{nodeSets, member}
+use Rattle.model.specs.Words.{holds, word, store}
+use Rattle.model.specs.Evaluation.{wordsNeeded, nodeWord, filledWords}
+use Rattle.model.proofs.Tests.{both, pair, less, less!, at-each, _also_}
+use Rattle.model.proofs.Words.{word-same, store-same, store-pieces}
+use Rattle.model.proofs.FinalWords.{node-word, written-holds}
+use Rattle.model.specs.AcceptedPlans.{Facts}
+use Rattle.model.proofs.Fitting.{Fit}
+use Rattle.model.proofs.NodeSets.{supplied-node, equal-node, union-node, intersection-node, difference-node, image-node, preimage-node, kind-known, region-small, node-within}
+use Rattle.subregions.specs.Pieces.{pieceWords}
+use Rattle.subregions.specs.Fill.{held, nodeFilled, NodeSizes, NodeHanded, AllHanded}
+use Rattle.bitsets.proofs.Bits.{agree}
+use Rattle.subregions.proofs.NodeFill.{sets-supplied, sets-equal, sets-union, sets-intersection, sets-difference, sets-image, sets-preimage}
+
+module _ (P : Plan) (D : DataSet) (F : Facts P) where
+  -- a node made of earlier nodes' members has its own
+  module _ (j : ℕ) (lt : j < nodeCount P) (H : ℕ → Partition) (i : ℕ) (earlier : (k : ℕ) → k < j → H k i ≡ member P D k i) (e : ℕ) where
+    operand : (k : ℕ) → k < j → H k i e ≡ member P D k i e
+    operand k l = ap (λ (set : ℕ → Bool). set e) (earlier k l)
+
+    at : {A B : Partition} → A ≡ B → A i e ≡ B i e
+    at q = ap (λ (partition : Partition). partition i e) q
+
+    pub members-are : nodeSets P D j H i e ≡ member P D j i e
+    unfolding union intersection difference image preimage
+    members-are =
+        at-each (λ kind. nodeKind P j ≡ kind → nodeSets P D j H i e ≡ member P D j i e) 0 7
+        ((λ k. at (sets-supplied P D j H k ∙ sym (supplied-node P D F j lt k .holds)))
+        also (λ k. at (sets-equal P D j H k ∙ sym (equal-node P D F j lt k .holds)))
+        also (λ k. let n = union-node P D F j lt k in
+        at (sets-union P D j H k) ∙ ap₂ _or_ (operand _ (n .left-earlier)) (operand _ (n .right-earlier)) ∙ sym (at (n .holds)))
+        also (λ k. let n = intersection-node P D F j lt k in
+        at (sets-intersection P D j H k) ∙ ap₂ _and_ (operand _ (n .left-earlier)) (operand _ (n .right-earlier)) ∙ sym (at (n .holds)))
+        also (λ k. let n = difference-node P D F j lt k in
+        at (sets-difference P D j H k) ∙ ap₂ (λ (s t : Bool). s and non t) (operand _ (n .left-earlier)) (operand _ (n .right-earlier)) ∙ sym (at (n .holds)))
+        also (λ k. let n = image-node P D F j lt k in
+        at (sets-image P D j H k)
+        ∙ ap (λ (set : ℕ → Bool). any (size D (source P (nodeB P j))) (λ x. set x and leads P D (nodeB P j) x e)) (earlier _ (n .earlier)) ∙ sym (at (n .holds)))
+        also (λ k. let n = preimage-node P D F j lt k in
+        at (sets-preimage P D j H k)
+        ∙ ap (λ (set : ℕ → Bool). any (size D (target P (nodeB P j))) (λ x. leads P D (nodeB P j) e x and set x)) (earlier _ (n .earlier)) ∙ sym (at (n .holds)))
+        also tt)
+        (nodeKind P j) (omega arith) (kind-known P D F j lt) refl
+
+  module _ (fit : Fit P D) (old now : List ℕ) (j : ℕ) (lt : j < nodeCount P) (enough : wordsNeeded P D ≤ length old)
+      (written : now ≡ store old 0 (j * pieces D * 8) (nodeWord P D)) where
+    room : j * pieces D * 8 ≤ length old
+    room = omega (arith, mul-le-mul-right (pieces D) lt, suc-mul j (pieces D))
+
+    -- the words hold the members of an earlier node: none is at or above the size of its region
+    held-members : (k : ℕ) → k < j → (i : ℕ) → i < pieces D → held P D now k i ≡ member P D k i
+    unfolding held
+    held-members k h i l = fun-ext (λ e.
+        agree
+        (λ t. sym (here e (less (both t .0))) ∙ both t .1)
+        (λ t. let w = node-within P D F fit k (omega arith) i e t in pair (less! (w .1)) (here e (w .1) ∙ t)))
+      where
+        here : (e : ℕ) → e < size D (nodeRegion P k) → holds now ((k * pieces D + i) * 8) e ≡ member P D k i e
+        here e m =
+            ap (λ (list : List ℕ). holds list ((k * pieces D + i) * 8) e) written
+            ∙ written-holds P D old j room k i e h l (omega (arith, region-small P D F fit k (omega arith)))
+
+    -- so node j gets its own
+    pub node-next : nodeFilled P D now j ≡ store old 0 ((j + 1) * pieces D * 8) (nodeWord P D)
+    unfolding nodeFilled pieceWords
+    node-next =
+        let begin : 0 + j * pieces D * 8 ≡ j * pieces D * 8 = omega arith in
+        let more : j * pieces D * 8 + pieces D * 8 ≡ (j + 1) * pieces D * 8 = omega (arith, suc-mul j (pieces D)) in
+        ap (λ (list : List ℕ). store list (j * pieces D * 8) (pieces D * 8) (pieceWords (nodeSets P D j (held P D now)))) written
+        ∙ store-same _ (j * pieces D * 8) (pieces D * 8) (pieceWords (nodeSets P D j (held P D now))) (λ w. nodeWord P D (j * pieces D * 8 + w)) (λ w h. own w h)
+        ∙ ap (λ (x : ℕ). store (store old 0 (j * pieces D * 8) (nodeWord P D)) x (pieces D * 8) (λ w. nodeWord P D (j * pieces D * 8 + w))) (sym begin)
+        ∙ store-pieces old 0 (j * pieces D * 8) (pieces D * 8) (nodeWord P D)
+        ∙ ap (λ (n : ℕ). store old 0 n (nodeWord P D)) more
+      where
+        own : (w : ℕ) → w < pieces D * 8 → word (nodeSets P D j (held P D now) (w / 8)) (w % 8) ≡ nodeWord P D (j * pieces D * 8 + w)
+        own w h =
+            let i : w / 8 < pieces D = omega arith in
+            let place : (j * pieces D + w / 8) * 8 + w % 8 ≡ j * pieces D * 8 + w = omega arith in
+            word-same _ (member P D j (w / 8)) (w % 8) (λ b l. members-are j lt (held P D now) (w / 8) (λ k m. held-members k m (w / 8) i) (w % 8 * 64 + b))
+            ∙ sym (node-word P D j (w / 8) (w % 8) i (omega arith)) ∙ ap (nodeWord P D) place
+
+-- nothing is written before the first node, and all is after the last
+pub none-written : (P : Plan) (D : DataSet) (old : List ℕ) → old ≡ store old 0 (0 * pieces D * 8) (nodeWord P D)
+unfolding store
+none-written P D old = let z : 0 * pieces D * 8 ≡ 0 = omega arith in sym (ap (λ (n : ℕ). store old 0 n (nodeWord P D)) z)
+
+pub all-written : (P : Plan) (D : DataSet) (old now : List ℕ) (j : ℕ) → j ≡ nodeCount P → now ≡ store old 0 (j * pieces D * 8) (nodeWord P D) → now ≡ filledWords P D old
+unfolding filledWords
+all-written P D old now j e q = q ∙ ap (λ (n : ℕ). store old 0 (n * pieces D * 8) (nodeWord P D)) e
+
+-- what a node is handed of what all are
+pub few-listed : {P : Plan} {D : DataSet} {maps supplied nodes sizes entries members entryStarts memberStarts : List ℕ} {N lent : ℕ}
+    → AllHanded P D maps supplied nodes sizes entries members entryStarts memberStarts N lent → length nodes / 4 ≤ 48
+few-listed A = rw (A .handed .nodes-are) (A .sizes-handed .few)
+
+pub node-handed : {P : Plan} {D : DataSet} {maps supplied nodes sizes entries members entryStarts memberStarts table : List ℕ} {N lent before j : ℕ}
+    → AllHanded P D maps supplied nodes sizes entries members entryStarts memberStarts N before → lent ≡ before → j < length nodes / 4
+    → NodeSizes P D table (nodeCount P) → NodeHanded P D nodes entries members entryStarts memberStarts table N lent j
+node-handed A same lt sizes-are =
+    record { handed = rw same (A .handed); sizes-are = sizes-are; listed = rw (← A .handed .nodes-are) lt }

@@ -1,0 +1,109 @@
+// The operators on a node's pieces, one after the other: eight words each, from word `at` on.
+use crate::operators::combine_pieces;
+use crate::operators::copy_supplied;
+use crate::operators::fill_between;
+use crate::operators::image;
+use crate::operators::least;
+use crate::operators::preimage;
+use bitsets::words::region_masks;
+ghost use mathlib.Core.Path.{_≡_};
+ghost use Prim.Native.Nat.{_+_, _*_, _≤_, _<_, min};
+ghost use Rattle.model.specs.Words.{store};
+ghost use Rattle.subregions.specs.Pieces.{pieceWords, suppliedPieces, equalPieces, combinedPieces, imagePieces, preimagePieces, SuppliedRoom, EqualRoom, CombinedRoom, ImageRoom, PreimageRoom};
+
+// The pieces of a supplied partition, whose bytes begin at a place.
+pub fn fill_supplied(
+    words: &mut [u64],
+    members: &[u8],
+    from: usize,
+    size: usize,
+    pieces: usize,
+    at: usize,
+)
+    requires { ⌜ SuppliedRoom (now words) from size pieces at ⌝ }
+    ensures { λ _. ⌜ now (words .exit) ≡ store (now (words .entry)) at (pieces * 8) (pieceWords (suppliedPieces (now (members .entry)) from size)) ⌝ }
+{
+    let masks = region_masks(size);
+    let bytes = (size + 7) / 8;
+    for i in 0..pieces {
+        copy_supplied(words, members, &masks, from + i * bytes, at + i * 8);
+    }
+}
+
+// Where a piece of an equal partition starts: the first pieces are one element longer.
+fn equal_start(quotient: usize, remainder: usize, i: usize) -> usize
+    requires { ⌜ (quotient ≤ 512) × (i ≤ 16) ⌝ }
+    ensures { λ r. ⌜ r ≡ quotient * i + min i remainder ⌝ }
+{
+    quotient * i + least(i, remainder)
+}
+
+// The pieces of an equal partition.
+pub fn fill_equal(words: &mut [u64], size: usize, pieces: usize, at: usize)
+    requires { ⌜ EqualRoom (now words) size pieces at ⌝ }
+    ensures { λ _. ⌜ now (words .exit) ≡ store (now (words .entry)) at (pieces * 8) (pieceWords (equalPieces size pieces)) ⌝ }
+{
+    let quotient = size / pieces;
+    let remainder = size % pieces;
+    for i in 0..pieces {
+        let low = equal_start(quotient, remainder, i);
+        let high = equal_start(quotient, remainder, i + 1);
+        fill_between(words, low, high, at + i * 8);
+    }
+}
+
+// The unions (kind 2), intersections (3) or differences (4) of the pieces from a and from b on, within a region's size.
+pub fn fill_combined(
+    words: &mut [u64],
+    kind: usize,
+    a: usize,
+    b: usize,
+    size: usize,
+    pieces: usize,
+    at: usize,
+)
+    requires { ⌜ CombinedRoom (now words) a b pieces at ⌝ }
+    ensures { λ _. ⌜ now (words .exit) ≡ store (now (words .entry)) at (pieces * 8) (pieceWords (combinedPieces (now (words .entry)) kind a b size)) ⌝ }
+{
+    let masks = region_masks(size);
+    for i in 0..pieces {
+        combine_pieces(words, &masks, kind, a + i * 8, b + i * 8, at + i * 8);
+    }
+}
+
+// The images of the pieces from a on, under a map of so many source elements.
+pub fn fill_image(
+    words: &mut [u64],
+    entries: &[u8],
+    start: usize,
+    count: usize,
+    a: usize,
+    pieces: usize,
+    at: usize,
+)
+    requires { ⌜ ImageRoom (now words) (now entries) start count a pieces at ⌝ }
+    ensures { λ _. ⌜ now (words .exit) ≡ store (now (words .entry)) at (pieces * 8) (pieceWords (imagePieces (now (words .entry)) (now (entries .entry)) start count a)) ⌝ }
+{
+    for i in 0..pieces {
+        image(words, entries, start, count, a + i * 8, at + i * 8);
+    }
+}
+
+// The preimages of the pieces from a on, of a region of a size, under a map of so many source elements.
+pub fn fill_preimage(
+    words: &mut [u64],
+    entries: &[u8],
+    start: usize,
+    count: usize,
+    size: usize,
+    a: usize,
+    pieces: usize,
+    at: usize,
+)
+    requires { ⌜ PreimageRoom (now words) (now entries) start count size a pieces at ⌝ }
+    ensures { λ _. ⌜ now (words .exit) ≡ store (now (words .entry)) at (pieces * 8) (pieceWords (preimagePieces (now (words .entry)) (now (entries .entry)) start count size a)) ⌝ }
+{
+    for i in 0..pieces {
+        preimage(words, entries, start, count, size, a + i * 8, at + i * 8);
+    }
+}
