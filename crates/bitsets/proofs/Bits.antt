@@ -1,13 +1,12 @@
 -- The machine's operations, bit by bit. Assumes nothing.
-use Prim.Native.Nat.{ℕ, zero, suc, _+_, _-_, _*_, _/_, _%_, _^_, _≤_, _<_, min, max}
-use mathlib.Core.Path.{_≡_, refl, sym, ap, ap₂, _∙_}
+use Prim.Native.Nat.{ℕ, zero, suc, _+_, _-_, _*_, _/_, _%_, _^_, _<_, min, max}
+use mathlib.Core.Path.{_≡_, refl, sym, ap, _∙_}
 use mathlib.Core.Bool.{Bool, true, false}
 use native.Mathlib.Nat.{pow-suc, mod-lt, one-mul}
 use native.Mathlib.Omega.{arith}
 use lib.Arith.{digits-mod}
 use lib.Bits.{bitAnd, bitOr, and-step, or-step, and-shr, or-shr, and-mask, shifted-half, shifted-even}
 use lib.Pow.{shr-shr, shl-shr, pow-pos, shl-exact, field, mod-mod-pow, low, high}
-use mir.Val.{boolByte}
 use Rattle.model.specs.Tests.{Is, _and_, _or_, non, _==_, _<?_}
 use Rattle.model.specs.Words.{bit, digit}
 use Rattle.model.proofs.Tests.{same, same!, less, less! }
@@ -59,10 +58,6 @@ and-swap true true = refl
 and-swap true false = refl
 and-swap false true = refl
 and-swap false false = refl
-
-pub boolByte-digit : (t : Bool) → boolByte t ≡ digit t
-boolByte-digit true = refl
-boolByte-digit false = refl
 
 -- a test of two digits at once
 least-test : (x y : ℕ) → x < 2 → y < 2 → (min x y == 1) ≡ (x == 1 and y == 1)

@@ -1,19 +1,21 @@
 -- The laws of the sets that the fills make, a word at a time. Assumes nothing.
-use Prim.Native.Nat.{ℕ, _+_, _-_, _*_, _/_, _%_, _^_, _≤_, _<_}
-use mathlib.Core.Path.{_≡_, refl, sym, ap, ap₂, _∙_, subst}
-use mathlib.Core.Bool.{Bool, true, false}
-use mathlib.Core.List.{List}
+use Prim.Native.Nat.{ℕ, _+_, _-_, _*_, _/_, _%_, _^_, _≤_, _<_, zero, suc}
+use mathlib.Core.Path.{_≡_, sym, ap, ap₂, _∙_, subst}
+use mathlib.Core.Bool.{Bool, false}
+use mathlib.Core.List.{List, [], _∷_}
+use native.Mathlib.Decide.{ℕ-discrete}
 use native.Mathlib.Omega.{arith}
-use lib.Bits.{bitAnd, bitOr, and-lt, or-lt, and-zero-r, or-zero-r}
+use lib.Bits.{bitAnd, bitOr, and-lt, or-lt}
 use lib.Pow.{pow-pos, pow-lt}
 use lib.ListN.{length, getD, set}
-use mir.Val.{boolByte}
-use Rattle.model.specs.Tests.{_and_, _or_, non, _==_, _<?_}
-use Rattle.model.specs.Words.{bit, digit, holds, number, word, store}
+use lib.Seq.{getD-set-same, getD-set-other}
+use native.Mathlib.Nat.{zero-add}
+use Rattle.model.specs.Tests.{_and_, _or_, non, _==_}
+use Rattle.model.specs.Words.{bit, digit, holds, number, word}
 use Rattle.model.specs.Nodes.{UNION, INTERSECTION}
 use Rattle.model.proofs.Tests.{both, pair, lacks, refuted, same, same!, less, less!, most, most!, pick-true, pick-false}
-use Rattle.model.proofs.Words.{bit-zero, is-number, is-word, word-less, bit-word, word-same, word-held, holds-bit, store-one}
-use Rattle.bitsets.specs.Elements.{upTo, between, adding, combination, combinedBits}
+use Rattle.model.proofs.Words.{bit-zero, is-number, is-word, word-less, bit-word}
+use Rattle.bitsets.specs.Elements.{upTo, between, combination, combinedBits, PieceOf, wordAt}
 use Rattle.bitsets.proofs.Bits.{agree, refute, or-false, bit-and, bit-or, bit-not, bit-power, bit-ones, one-shifted, bit-taken}
 
 -- the elements below a number: none of a word, all of it, or the lowest of it
@@ -50,6 +52,10 @@ between-word low high w x y p q =
     (λ t. pair (most! (let n : (w * 64 + b < low → ⊥) = λ h. lacks (both t .1) (less! h) in omega arith)) (both t .0))
     (λ t. pair (both t .1) (refuted (λ h. let m = most (both t .0) in let k = less h in omega arith))))
 
+pub between-none : (low high e : ℕ) → (low ≤ e → e < high → ⊥) → between low high e ≡ false
+unfolding between
+between-none low high e h = refute (λ t. h (most (both t .0)) (less (both t .1)))
+
 -- one word of a union, an intersection, a difference
 module _ (kind x y : ℕ) (hx : x < 2 ^ 64) (hy : y < 2 ^ 64) where
   pub union-word : kind ≡ UNION → (bitOr x y) ≡ number 64 (combinedBits kind x y)
@@ -69,59 +75,42 @@ module _ (kind x y : ℕ) (hx : x < 2 ^ 64) (hy : y < 2 ^ 64) where
       (λ b l. bit-and x _ b ∙ ap (λ (t : Bool). bit x b and t) (bit-not 64 y b hy l)
       ∙ sym (pick-false _ _ _ (refute (λ t. n (same t))) ∙ pick-false _ _ _ (refute (λ t. m (same t)))))
 
--- an element tested: only one below a size of at most 512 has a word of its own
-pub tested : (words : List ℕ) (at size e : ℕ) → size ≤ 512
-    → bitAnd (getD words (at + e / 64 % 8) 0 / 2 ^ (e % 64)) (boolByte (lib.Dec.ltb e size)) ≡ digit (e <? size and holds words at e)
-unfolding holds _<?_ _and_
-tested words at size e h = go (lib.Dec.ltb e size) refl
-  where
-    go : (t : Bool) → lib.Dec.ltb e size ≡ t
-        → bitAnd (getD words (at + e / 64 % 8) 0 / 2 ^ (e % 64)) (boolByte (lib.Dec.ltb e size)) ≡ digit (e <? size and holds words at e)
-    go true q =
-        let l : e < size = less q in
-        let here : e / 64 % 8 ≡ e / 64 = omega arith in
-        simp (q, here, bit-taken)
-    go false q = simp (q, and-zero-r)
+-- an element tested
+pub tested : (words : List ℕ) (e : ℕ) → bitAnd (getD words (e / 64) 0 / 2 ^ (e % 64)) 1 ≡ digit (holds words 0 e)
+unfolding holds
+tested words e = let here : 0 + e / 64 ≡ e / 64 = omega arith in rw here (bit-taken (getD words (e / 64) 0) (e % 64))
+
+-- a word of no element
+pub empty-word : (elements : ℕ → Bool) (w : ℕ) → ((e : ℕ) → 64 * w ≤ e → e < 64 * w + 64 → elements e ≡ false) → 0 ≡ word elements w
+empty-word elements w h = is-word 0 elements w (omega arith) (λ b l. bit-zero b ∙ sym (h (w * 64 + b) (omega arith) (omega arith)))
 
 -- an element added
-module _ (words : List ℕ) (at e : ℕ) (fit : at + 8 ≤ length words) (small : (i : ℕ) → getD words i 0 < 2 ^ 64) where
-  added-bits : (w b : ℕ) → b < 64
-      → bit (bitOr (getD words (at + w) 0) (2 ^ (e % 64))) b ≡ (holds words at (w * 64 + b) or b == e % 64)
-  added-bits w b l = bit-or _ _ b ∙ ap₂ _or_ (sym (holds-bit words at w b l)) (bit-power (e % 64) b)
+pub added : (words : List ℕ) (n x : ℕ) → n / 64 < length words
+    → holds (set words (n / 64) (bitOr (getD words (n / 64) 0) ((1 * 2 ^ (n % 64)) % 2 ^ 64))) 0 x ≡ (holds words 0 x or x == n)
+unfolding holds
+added words n x room = rw (one-shifted (n % 64) (omega arith), zero-add (x / 64)) (go (ℕ-discrete (x / 64) (n / 64)))
+  where
+    go : Dec (x / 64 ≡ n / 64)
+        → bit (getD (set words (n / 64) (bitOr (getD words (n / 64) 0) (2 ^ (n % 64)))) (x / 64) 0) (x % 64) ≡ (bit (getD words (x / 64) 0) (x % 64) or x == n)
+    go (yes q) =
+        rw (q, getD-set-same words (n / 64) (bitOr (getD words (n / 64) 0) (2 ^ (n % 64))) 0 room, bit-or (getD words (n / 64) 0) (2 ^ (n % 64)) (x % 64), bit-power (n % 64) (x % 64))
+        (ap (λ (t : Bool). bit (getD words (n / 64) 0) (x % 64) or t) (agree (λ t. let r = same t in same! (omega arith)) (λ t. let r = same t in same! (omega arith))))
+    go (no d) =
+        rw (getD-set-other words (n / 64) (x / 64) (bitOr (getD words (n / 64) 0) (2 ^ (n % 64))) 0 d)
+        (sym (ap (λ (t : Bool). bit (getD words (x / 64) 0) (x % 64) or t) (refute (λ t. let r = same t in d (omega arith))) ∙ or-false _))
 
-  added-in : e < 512 → set words (at + e / 64 % 8) (bitOr (getD words (at + e / 64 % 8) 0) (2 ^ (e % 64)))
-      ≡ store words at 8 (word (adding e (holds words at)))
-  unfolding adding
-  added-in h =
-      store-one words at 8 (word (adding e (holds words at))) (e / 64 % 8) _ fit (omega arith)
-      (is-word _ (adding e (holds words at)) (e / 64 % 8) (or-lt 64 _ _ (small _) (pow-lt {j = 64} (omega arith)))
-      (λ b l. added-bits (e / 64 % 8) b l
-      ∙ ap (λ (t : Bool). holds words at (e / 64 % 8 * 64 + b) or t)
-      (agree (λ t. let q = same t in same! (omega arith)) (λ t. let q = same t in same! (omega arith)))))
-      (λ k l d. word-held words at k (small _)
-      ∙ word-same _ _ k (λ b m. sym (ap (λ (t : Bool). holds words at (k * 64 + b) or t) (refute (λ t. let q = same t in d (omega arith))) ∙ or-false _)))
+-- eight words written out
+module _ (elements : ℕ → Bool) {x0 x1 x2 x3 x4 x5 x6 x7 : ℕ} (e0 : x0 ≡ word elements 0) (e1 : x1 ≡ word elements 1) (e2 : x2 ≡ word elements 2) (e3 : x3 ≡ word elements 3) (e4 : x4 ≡ word elements 4) (e5 : x5 ≡ word elements 5) (e6 : x6 ≡ word elements 6) (e7 : x7 ≡ word elements 7) where
+  each : (w : ℕ) → w < 8 → wordAt (x0 ∷ x1 ∷ x2 ∷ x3 ∷ x4 ∷ x5 ∷ x6 ∷ x7 ∷ []) w ≡ word elements w
+  each zero l = e0
+  each (suc zero) l = e1
+  each (suc (suc zero)) l = e2
+  each (suc (suc (suc zero))) l = e3
+  each (suc (suc (suc (suc zero)))) l = e4
+  each (suc (suc (suc (suc (suc zero))))) l = e5
+  each (suc (suc (suc (suc (suc (suc zero)))))) l = e6
+  each (suc (suc (suc (suc (suc (suc (suc zero))))))) l = e7
+  each (suc (suc (suc (suc (suc (suc (suc (suc w)))))))) l = absurd (omega arith)
 
-  added-out : 512 ≤ e → set words (at + e / 64 % 8) (getD words (at + e / 64 % 8) 0) ≡ store words at 8 (word (adding e (holds words at)))
-  unfolding adding
-  added-out h =
-      store-one words at 8 (word (adding e (holds words at))) (e / 64 % 8) _ fit (omega arith) (as-it-was (e / 64 % 8) (omega arith))
-      (λ k l d. as-it-was k l)
-    where
-      as-it-was : (k : ℕ) → k < 8 → getD words (at + k) 0 ≡ word (adding e (holds words at)) k
-      as-it-was k l =
-          word-held words at k (small _)
-          ∙ word-same _ _ k (λ b m. sym (ap (λ (t : Bool). holds words at (k * 64 + b) or t) (refute (λ t. let q = same t in omega arith)) ∙ or-false _))
-
-  pub added : set words (at + e / 64 % 8)
-      (bitOr (getD words (at + e / 64 % 8) 0) ((boolByte (lib.Dec.ltb e 512) * 2 ^ (e % 64)) % 2 ^ 64))
-      ≡ store words at 8 (word (adding e (holds words at)))
-  unfolding _<?_
-  added = go (lib.Dec.ltb e 512) refl
-    where
-      go : (t : Bool) → lib.Dec.ltb e 512 ≡ t → set words (at + e / 64 % 8)
-          (bitOr (getD words (at + e / 64 % 8) 0) ((boolByte (lib.Dec.ltb e 512) * 2 ^ (e % 64)) % 2 ^ 64))
-          ≡ store words at 8 (word (adding e (holds words at)))
-      go true q = rw (q, one-shifted (e % 64) (omega arith)) (added-in (less q))
-      go false q =
-          let z : (0 * 2 ^ (e % 64)) % 2 ^ 64 ≡ 0 = omega arith in
-          rw (q, z, or-zero-r) (added-out (let n = borrow.Author.Tests.ltb-false e 512 q in omega arith))
+  pub eight-words : PieceOf elements (x0 ∷ x1 ∷ x2 ∷ x3 ∷ x4 ∷ x5 ∷ x6 ∷ x7 ∷ [])
+  eight-words = record { eight = omega arith; word-is = each }

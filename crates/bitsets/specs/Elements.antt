@@ -3,14 +3,11 @@ use Prim.Native.Nat.{ℕ, _+_, _-_, _*_, _/_, _%_, _≤_, _<_}
 use mathlib.Core.Path.{_≡_}
 use mathlib.Core.List.{List}
 use lib.ListN.{length, getD}
-use mathlib.Core.Bool.{Bool, false}
+use mathlib.Core.Bool.{Bool}
 use Rattle.model.specs.Tests.{Is, _and_, _or_, non, any, pick, _==_, _<?_, _≤?_}
 use Rattle.model.specs.Bytes.{Bytes, byte, u16}
 use Rattle.model.specs.Nodes.{UNION, INTERSECTION}
 use Rattle.model.specs.Words.{bit, holds, word}
-
-abbrev pub none : ℕ → Bool
-none e = false
 
 -- the elements below n
 unfoldable pub upTo : ℕ → ℕ → Bool
@@ -19,10 +16,6 @@ upTo n e = e <? n
 -- the elements from low up to, not including, high
 unfoldable pub between : ℕ → ℕ → ℕ → Bool
 between low high e = low ≤? e and e <? high
-
--- a set with one element more
-unfoldable pub adding : ℕ → (ℕ → Bool) → ℕ → Bool
-adding new elements e = elements e or e == new
 
 -- one element of a union, an intersection or, for any other kind, a difference
 unfoldable pub combination : ℕ → Bool → Bool → Bool
@@ -57,10 +50,14 @@ pub record LowerPlaces (mask by : ℕ) : Type 0 where
 unfoldable pub reversedBits : ℕ → ℕ → Bool
 reversedBits x b = bit x (b / 8 * 8 + (7 - b % 8))
 
--- eight words, of the elements below a region's size
-pub record Masks (size : ℕ) (masks : List ℕ) : Type 0 where
-  pub eight : length masks ≡ 8
-  pub word-is : (w : ℕ) → w < 8 → getD masks w 0 ≡ word (upTo size) w
+-- a word of a piece
+abbrev pub wordAt : List ℕ → ℕ → ℕ
+wordAt piece w = getD piece w 0
+
+-- eight words of a set; spare ones may stand behind them
+pub record PieceOf (elements : ℕ → Bool) (piece : List ℕ) : Type 0 where
+  pub eight : 8 ≤ length piece
+  pub word-is : (w : ℕ) → w < 8 → wordAt piece w ≡ word elements w
 
 -- the elements of a set that eight words hold
 unfoldable pub masked : List ℕ → (ℕ → Bool) → ℕ → Bool
@@ -86,3 +83,7 @@ addingEntries entries start members elements e = elements e or entriesOf 64 entr
 unfoldable pub leadingTo : ℕ → Bytes → ℕ → ℕ → (ℕ → Bool) → ℕ → Bool
 leadingTo n entries start size elements k =
     k <? n and u16 entries (start + 2 * k) <? size and elements (u16 entries (start + 2 * k))
+
+-- the places of a table whose element is in a set
+unfoldable pub through : List ℕ → List ℕ → ℕ → Bool
+through table set k = holds set 0 (getD table k 0)

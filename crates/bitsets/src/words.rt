@@ -4,9 +4,8 @@ ghost use mathlib.Core.Path.{_≡_};
 ghost use Prim.Native.Nat.{_+_, _^_, _≤_, _<_};
 ghost use lib.Count.{trailingZeros};
 ghost use lib.ListN.{length};
-ghost use Rattle.model.specs.Tests.{_and_, _<?_};
-ghost use Rattle.model.specs.Words.{digit, holds, number, word, store};
-ghost use Rattle.bitsets.specs.Elements.{upTo, between, adding, combinedBits, twoBytes, bytesBits, exchangedBits, LowerPlaces, reversedBits, Masks};
+ghost use Rattle.model.specs.Words.{number, word};
+ghost use Rattle.bitsets.specs.Elements.{upTo, between, combinedBits, twoBytes, bytesBits, exchangedBits, LowerPlaces, reversedBits, PieceOf};
 
 // Word w of the elements below a number.
 pub fn word_below(count: usize, w: usize) -> u64
@@ -44,17 +43,20 @@ pub fn combine(kind: usize, x: u64, y: u64) -> u64
     }
 }
 
-// The eight words of a region's elements.
+// The eight words of a region's elements, written out so that they can stay in registers.
 pub fn region_masks(size: usize) -> [u64; 8]
-    ensures { λ r. ⌜ Masks size r ⌝ }
+    ensures { λ r. ⌜ PieceOf (upTo size) r ⌝ }
 {
-    let mut masks = [0; 8];
-    let mut w = 0;
-    while w < 8 {
-        masks[w] = word_below(size, w);
-        w += 1;
-    }
-    masks
+    [
+        word_below(size, 0),
+        word_below(size, 1),
+        word_below(size, 2),
+        word_below(size, 3),
+        word_below(size, 4),
+        word_below(size, 5),
+        word_below(size, 6),
+        word_below(size, 7),
+    ]
 }
 
 // The byte as a word.
@@ -86,17 +88,26 @@ fn last_bytes(s: &[u8], at: usize) -> u64
     result
 }
 
-// The same, by one read where all eight are there.
+// The eight bytes at a place as a word, the first lowest, by one read.
+pub fn inside_bytes(s: &[u8], at: usize) -> u64
+    requires { ⌜ at + 8 ≤ length (now s) ⌝ }
+    ensures { λ r. ⌜ r ≡ number 64 (bytesBits (now (s .entry)) at) ⌝ }
+{
+    let high = two_bytes(s, at + 6) * 65536 + two_bytes(s, at + 4);
+    let low = two_bytes(s, at + 2) * 65536 + two_bytes(s, at);
+    high * 4294967296 + low
+}
+
+// The same; bytes past the end are 0.
 pub fn eight_bytes(s: &[u8], at: usize) -> u64
     requires { ⌜ at < 2 ^ 32 ⌝ }
     ensures { λ r. ⌜ r ≡ number 64 (bytesBits (now (s .entry)) at) ⌝ }
 {
     if at + 8 > s.len() {
-        return last_bytes(s, at);
+        last_bytes(s, at)
+    } else {
+        inside_bytes(s, at)
     }
-    let high = two_bytes(s, at + 6) * 65536 + two_bytes(s, at + 4);
-    let low = two_bytes(s, at + 2) * 65536 + two_bytes(s, at);
-    high * 4294967296 + low
 }
 
 // The bits at the mask's places exchanged with those so many places higher.
@@ -121,21 +132,4 @@ pub fn lowest(word: u64) -> usize
     ensures { λ r. ⌜ r ≡ trailingZeros 64 word ⌝ }
 {
     u64::trailing_zeros(word) as usize
-}
-
-// Whether the piece at word `at` holds element e, if that is below its region's size: 1 or 0.
-pub fn test(words: &[u64], at: usize, size: usize, e: usize) -> u64
-    requires { ⌜ (at + 8 ≤ length (now words)) × (size ≤ 512) ⌝ }
-    ensures { λ r. ⌜ r ≡ digit (e <? size and holds (now (words .entry)) at e) ⌝ }
-{
-    (words[at + e / 64 % 8] >> (e % 64)) & (e < size) as u64
-}
-
-// Puts element e into the piece at word `at`; one that no piece has room for changes nothing.
-pub fn add(words: &mut [u64], at: usize, e: usize)
-    requires { ⌜ at + 8 ≤ length (now words) ⌝ }
-    ensures { λ _. ⌜ now (words .exit) ≡ store (now (words .entry)) at 8 (word (adding e (holds (now (words .entry)) at))) ⌝ }
-{
-    let i = at + e / 64 % 8;
-    words[i] = words[i] | (((e < 512) as u64) << (e % 64));
 }

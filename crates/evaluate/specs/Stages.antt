@@ -57,33 +57,39 @@ module _ (P : Plan) where
     pub checked : outcome ≡ check
     pub words : new ≡ wordsLeft d old outcome
 
+-- the fills can be made
 pub record DataReady (maps supplied nodes d : Bytes) (frame : DataFrame) (entryStarts memberStarts : List ℕ) (N lent : ℕ) : Type 0 where
   pub plan : Plan
   pub held : DataHeld plan maps supplied nodes d frame entryStarts memberStarts N lent
   pub cut : Cut (length d) frame
 
+-- they are made: the words are the final ones
 abbrev pub DataDone : Bytes → Bytes → Bytes → Bytes → DataFrame → List ℕ → List ℕ → ℕ → List ℕ → List ℕ → Type 0
 DataDone maps supplied nodes d frame entryStarts memberStarts N old new =
     (P : Plan) → DataHeld P maps supplied nodes d frame entryStarts memberStarts N (length old) → new ≡ filledWords P (dataOf d) old
 
+-- the number of words can be judged
 pub record LentReady (maps supplied nodes d : Bytes) (r : DataReading) : Type 0 where
   pub plan : Plan
   pub held : Held plan maps supplied nodes d r
 
+-- it is judged, and the words are filled where enough are lent
 abbrev pub LentDone : Bytes → Bytes → Bytes → Bytes → DataReading → List ℕ → List ℕ → Outcome → Type 0
 LentDone maps supplied nodes d r old new outcome =
     (P : Plan) → Held P maps supplied nodes d r → Left P (lentCheck P d (length old)) d old new outcome
 
+-- a data set can be read against these sections
 pub record SectionsReady (regions maps supplied nodes : Bytes) : Type 0 where
   pub plan : Plan
   pub regions-are : regions ≡ plan .regions
   pub sections : Sections plan maps supplied nodes
 
+-- data set and number of words are judged, in this order, and the words filled where both pass
 abbrev pub SectionsDone : Bytes → Bytes → Bytes → Bytes → Bytes → List ℕ → List ℕ → Outcome → Type 0
 SectionsDone regions maps supplied nodes d old new outcome =
     (P : Plan) → regions ≡ P .regions → Sections P maps supplied nodes → Left P (dataCheck P d then lentCheck P d (length old)) d old new outcome
 
--- evaluating an accepted plan
+-- the same of the plan's bytes
 abbrev pub PlanDone : Bytes → Bytes → List ℕ → List ℕ → Outcome → Type 0
 PlanDone p d old new outcome =
     Left (planOf p) (dataCheck (planOf p) d then lentCheck (planOf p) d (length old)) d old new outcome

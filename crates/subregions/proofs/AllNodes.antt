@@ -2,16 +2,15 @@
 -- Assumes nothing.
 use Prim.Native.Nat.{ℕ, _+_, _*_, _/_, _%_, _≤_, _<_}
 use mathlib.Core.Path.{_≡_, refl, sym, ap, ap₂, _∙_, fun-ext}
-use mathlib.Core.Logic.{inl, inr}
 use mathlib.Core.Bool.{Bool}
 use mathlib.Core.List.{List}
 use native.Mathlib.Nat.{mul-le-mul-right, suc-mul}
 use native.Mathlib.Omega.{arith}
-use lib.ListN.{length, getD}
-use Rattle.model.specs.Tests.{Is, _and_, _or_, non, any, _<?_}
+use lib.ListN.{length}
+use Rattle.model.specs.Tests.{_and_, _or_, non, any}
 use Rattle.model.specs.Partitions.{Partition, union, intersection, difference, image, preimage}
-use Rattle.model.specs.Layout.{Plan, nodeCount, source, target, nodeKind, nodeA, nodeB}
-use Rattle.model.specs.Nodes.{SUPPLIED, EQUAL, UNION, INTERSECTION, DIFFERENCE, IMAGE, PREIMAGE, nodeRegion}
+use Rattle.model.specs.Layout.{Plan, nodeCount, source, target, nodeKind, nodeB}
+use Rattle.model.specs.Nodes.{nodeRegion}
 use Rattle.model.specs.DataSets.{DataSet, pieces, size, leads}
 use Rattle.model.specs.Membership.{nodeSets, member}
 use Rattle.model.specs.Words.{holds, word, store}

@@ -1,21 +1,18 @@
 -- The laws of image and preimage made a word at a time. Assumes nothing.
-use Prim.Native.Nat.{ℕ, zero, suc, _+_, _-_, _*_, _/_, _%_, _^_, _≤_, _<_, min}
+use Prim.Native.Nat.{ℕ, suc, _+_, _-_, _*_, _^_, _≤_, _<_, min}
 use mathlib.Core.Path.{_≡_, refl, sym, ap, ap₂, _∙_}
 use mathlib.Core.Logic.{inl, inr}
-use mathlib.Core.Bool.{Bool, true, false}
-use mathlib.Core.List.{List}
+use mathlib.Core.Bool.{Bool, false}
 use native.Mathlib.Decide.{ℕ-discrete, decLt}
 use native.Mathlib.Omega.{arith}
-use lib.Bits.{bitAnd}
 use lib.Pow.{pow-pos, pow-mono}
-use lib.ListN.{length, getD}
-use Rattle.model.specs.Tests.{Is, _and_, _or_, any, _==_, _<?_}
+use Rattle.model.specs.Tests.{Is, _and_, _or_, non, any, _==_, _<?_}
 use Rattle.model.specs.Bytes.{Bytes, u16}
-use Rattle.model.specs.Words.{bit, digit, holds, number, word}
-use Rattle.model.proofs.Tests.{falsum, both, pair, either, one, same, same!, less, less!, some-of, among}
-use Rattle.model.proofs.Words.{bit-zero, bit-word, number-less, number-same, is-number, holds-bit}
-use Rattle.bitsets.specs.Elements.{upTo, adding, entriesOf, addingEntries, leadingTo}
-use Rattle.bitsets.proofs.Bits.{agree, refute, and-swap, or-false, bit-and}
+use Rattle.model.specs.Words.{bit, digit, number, word}
+use Rattle.model.proofs.Tests.{falsum, both, pair, either, one, lacks, refuted, same, same!, less, less!, some-of, among}
+use Rattle.model.proofs.Words.{bit-zero, number-less, number-same, is-number}
+use Rattle.bitsets.specs.Elements.{entriesOf, addingEntries, leadingTo}
+use Rattle.bitsets.proofs.Bits.{agree, refute}
 
 -- a word from its highest element down: the bits of word w from element k on
 unfoldable pub upper : (ℕ → Bool) → ℕ → ℕ → ℕ
@@ -55,6 +52,12 @@ pub leading-past : (n : ℕ) (entries : Bytes) (start size : ℕ) (elements : �
 unfolding leadingTo
 leading-past n entries start size elements k h = refute (λ t. let l = less (both t .0) in omega arith)
 
+-- nor does an entry at or above the size
+pub leading-none : (n : ℕ) (entries : Bytes) (start size : ℕ) (elements : ℕ → Bool) (k : ℕ) → size ≤ u16 entries (start + 2 * k)
+    → leadingTo n entries start size elements k ≡ false
+unfolding leadingTo
+leading-none n entries start size elements k h = refute (λ t. let l = less (both (both t .1) .0) in omega arith)
+
 pub leading-at : (n : ℕ) (entries : Bytes) (start size : ℕ) (elements : ℕ → Bool) (k v : ℕ) → k < n → v ≡ u16 entries (start + 2 * k)
     → (v <? size and elements v) ≡ leadingTo n entries start size elements k
 unfolding leadingTo
@@ -69,80 +72,76 @@ leading-same n entries start size A B h k =
     agree (λ t. pair (both t .0) (pair (both (both t .1) .0) (sym (h _ (less (both (both t .1) .0))) ∙ both (both t .1) .1)))
     (λ t. pair (both t .0) (pair (both (both t .1) .0) (h _ (less (both (both t .1) .0)) ∙ both (both t .1) .1)))
 
--- a set with the entries of a word's first m members
+-- a set with the entries of a word's members but for those of a rest
 unfoldable pub gathered : Bytes → ℕ → ℕ → (ℕ → Bool) → ℕ → ℕ → Bool
-gathered entries start members elements m e = elements e or entriesOf m entries start (bit members) e
+gathered entries start members elements rest e = elements e or entriesOf 64 entries start (λ k. bit members k and non (bit rest k)) e
 
 module _ (entries : Bytes) (start members : ℕ) (elements : ℕ → Bool) where
-  pub gathered-none : (e : ℕ) → elements e ≡ gathered entries start members elements 0 e
-  unfolding gathered entriesOf any
-  gathered-none e = sym (or-false _)
-
-  -- one member more, behind zeros
-  pub gathered-next : (m n v : ℕ) → m ≤ n → ((b : ℕ) → m ≤ b → b < n → bit members b ≡ false) → Is (bit members n) → v ≡ u16 entries (start + 2 * n)
-      → (before : ℕ → Bool) (e : ℕ) → before e ≡ gathered entries start members elements m e
-      → adding v before e ≡ gathered entries start members elements (n + 1) e
-  unfolding gathered entriesOf adding
-  gathered-next m n v h zeros here q before e as-it-was =
-      ap (λ (t : Bool). t or e == v) as-it-was
-      ∙ agree
+  pub gathered-none : (e : ℕ) → elements e ≡ gathered entries start members elements members e
+  unfolding gathered entriesOf
+  gathered-none e =
+      agree (λ t. one (inl t))
       (λ t. elim (either t) [
-        | inl s ↦ one (elim (either s) [
-          | inl x ↦ inl x
-          | inr x ↦ let k = some-of x in inr (among (k .0, omega (arith, k .1), k .2))
-        ])
-        | inr s ↦ one (inr (among (n, omega arith, pair here (same! (sym (same s ∙ q))))))
+        | inl x ↦ x
+        | inr x ↦ let k = some-of x in absurd (lacks (both (both (k .2) .0) .1) (both (both (k .2) .0) .0))
       ])
-      (λ t. elim (either t) [
-        | inl x ↦ one (inl (one (inl x)))
-        | inr x ↦ let k = some-of x in go (k .0) (k .1) (k .2) (decLt (k .0) m) (ℕ-discrete (k .0) n)
+
+  -- one member more, taken from the rest
+  pub gathered-next : (rest left t v : ℕ) → t < 64 → Is (bit rest t) → Is (bit members t) → v ≡ u16 entries (start + 2 * t)
+      → ((b : ℕ) → bit left b ≡ (bit rest b and non (b == t)))
+      → (e : ℕ) → (gathered entries start members elements rest e or e == v) ≡ gathered entries start members elements left e
+  unfolding gathered entriesOf
+  gathered-next rest left t v inside here member q cleared e =
+      agree
+      (λ s. elim (either s) [
+        | inl x ↦ one (elim (either x) [
+          | inl y ↦ inl y
+          | inr y ↦ let k = some-of y in inr (among (k .0, k .1, pair (pair (both (both (k .2) .0) .0) (refuted (λ h. lacks (both (both (k .2) .0) .1) (both (sym (cleared (k .0)) ∙ h) .0)))) (both (k .2) .1)))
+        ])
+        | inr x ↦ one (inr (among (t, inside, pair (pair member (refuted (λ h. lacks (both (sym (cleared t) ∙ h) .1) (same! refl)))) (same! (sym (same x ∙ q))))))
+      ])
+      (λ s. elim (either s) [
+        | inl y ↦ one (inl (one (inl y)))
+        | inr y ↦ let k = some-of y in go (k .0) (k .1) (k .2) (ℕ-discrete (k .0) t)
       ])
     where
-      go : (k : ℕ) → k < n + 1 → Is (bit members k and u16 entries (start + 2 * k) == e) → Dec (k < m) → Dec (k ≡ n)
-          → Is ((elements e or any m (λ k. bit members k and u16 entries (start + 2 * k) == e)) or e == v)
-      go k l t (yes a) b = one (inl (one (inr (among (k, a, t)))))
-      go k l t (no a) (yes b) = one (inr (same! (sym (same (both t .1)) ∙ ap (λ (i : ℕ). u16 entries (start + 2 * i)) b ∙ sym q)))
-      go k l t (no a) (no b) = falsum (sym (zeros k (omega arith) (omega arith)) ∙ both t .0)
+      go : (k : ℕ) → k < 64 → Is ((bit members k and non (bit left k)) and u16 entries (start + 2 * k) == e) → Dec (k ≡ t)
+          → Is ((elements e or any 64 (λ k. (bit members k and non (bit rest k)) and u16 entries (start + 2 * k) == e)) or e == v)
+      go k l s (yes r) = one (inr (same! (sym (same (both s .1)) ∙ ap (λ (i : ℕ). u16 entries (start + 2 * i)) r ∙ sym q)))
+      go k l s (no d) =
+          one (inl (one (inr (among (
+            k,
+            l,
+            pair (pair (both (both s .0) .0) (refuted (λ h. lacks (both (both s .0) .1)
+                (cleared k ∙ pair h (refuted (λ r. d (same r))))))) (both s .1),
+          )))))
 
-  -- no member more
-  pub gathered-all : (m : ℕ) → m ≤ 64 → ((b : ℕ) → m ≤ b → bit members b ≡ false) → (e : ℕ)
-      → gathered entries start members elements m e ≡ addingEntries entries start members elements e
+  -- nothing is left
+  pub gathered-all : (rest : ℕ) → rest ≡ 0 → (e : ℕ) → gathered entries start members elements rest e ≡ addingEntries entries start members elements e
   unfolding gathered entriesOf addingEntries
-  gathered-all m h zeros e =
+  gathered-all rest z e =
       ap (λ (t : Bool). elements e or t)
       (agree
-      (λ t. let k = some-of t in among (k .0, omega (arith, k .1), k .2))
-      (λ t. let k = some-of t in among (k .0, inside (k .0) (both (k .2) .0) (decLt (k .0) m), k .2)))
-    where
-      inside : (k : ℕ) → Is (bit members k) → Dec (k < m) → k < m
-      inside k t (yes l) = l
-      inside k t (no l) = falsum (sym (zeros k (omega arith)) ∙ t)
+      (λ t. let k = some-of t in among (k .0, k .1, pair (both (both (k .2) .0) .0) (both (k .2) .1)))
+      (λ t. let k = some-of t in among (k .0, k .1, pair (pair (both (k .2) .0) (refuted (λ h. falsum (sym (ap (λ (r : ℕ). bit r (k .0)) z ∙ bit-zero (k .0)) ∙ h)))) (both (k .2) .1))))
 
--- the members of word w of a set's first n elements
-pub first-members : (words : List ℕ) (a n w m : ℕ) → m ≡ word (upTo n) w → (b : ℕ) → b < 64
-    → bit (bitAnd (getD words (a + w) 0) m) b ≡ (w * 64 + b <? n and holds words a (w * 64 + b))
-unfolding upTo
-first-members words a n w m q b l =
-    bit-and _ m b ∙ ap₂ _and_ (sym (holds-bit words a w b l)) (ap (λ (x : ℕ). bit x b) q ∙ bit-word (upTo n) w b l) ∙ and-swap _ _
+-- an entry that leads to an element
+pub leads-to : (u e : ℕ) → e < 512 → (e == min u 512) ≡ (e == u)
+leads-to u e l = agree (λ t. let q = same t in same! (omega arith)) (λ t. let q = same t in same! (omega arith))
 
-module _ (entries : Bytes) (start n : ℕ) (elements : ℕ → Bool) where
-  -- the entries of the first m elements, of those below n
-  unfoldable pub entriesTo : ℕ → ℕ → Bool
-  entriesTo m e = entriesOf m entries start (λ k. k <? n and elements k) e
-
-  pub entries-none : (e : ℕ) → false ≡ entriesTo 0 e
-  unfolding entriesTo entriesOf any
+module _ (entries : Bytes) (start : ℕ) (elements : ℕ → Bool) where
+  pub entries-none : (e : ℕ) → false ≡ entriesOf 0 entries start elements e
+  unfolding entriesOf any
   entries-none e = refl
 
   -- those of a word more
-  pub entries-word : (w members : ℕ) (before : ℕ → Bool) (e : ℕ) → before e ≡ entriesTo (64 * w) e
-      → ((b : ℕ) → b < 64 → bit members b ≡ (w * 64 + b <? n and elements (w * 64 + b)))
-      → addingEntries entries (start + 128 * w) members before e ≡ entriesTo (64 * (w + 1)) e
-  unfolding entriesTo entriesOf addingEntries
-  entries-word w members before e h bits =
+  pub entries-word : (w members : ℕ) → ((b : ℕ) → b < 64 → bit members b ≡ elements (w * 64 + b)) → (e : ℕ)
+      → addingEntries entries (start + 128 * w) members (entriesOf (64 * w) entries start elements) e ≡ entriesOf (64 * (w + 1)) entries start elements e
+  unfolding entriesOf addingEntries
+  entries-word w members bits e =
       agree
       (λ t. elim (either t) [
-        | inl x ↦ let k = some-of (sym h ∙ x) in among (k .0, omega (arith, k .1), k .2)
+        | inl x ↦ let k = some-of x in among (k .0, omega (arith, k .1), k .2)
         | inr x ↦
             let k = some-of x in
             let place : start + 128 * w + 2 * k .0 ≡ start + 2 * (w * 64 + k .0) = omega arith in
@@ -154,32 +153,25 @@ module _ (entries : Bytes) (start n : ℕ) (elements : ℕ → Bool) where
       ])
       (λ t. let k = some-of t in go (k .0) (k .1) (k .2) (decLt (k .0) (64 * w)))
     where
-      go : (k : ℕ) → k < 64 * (w + 1) → Is ((k <? n and elements k) and u16 entries (start + 2 * k) == e) → Dec (k < 64 * w)
-          → Is (before e or any 64 (λ b. bit members b and u16 entries (start + 128 * w + 2 * b) == e))
-      go k l t (yes a) = one (inl (h ∙ among (k, a, t)))
+      go : (k : ℕ) → k < 64 * (w + 1) → Is (elements k and u16 entries (start + 2 * k) == e) → Dec (k < 64 * w)
+          → Is (any (64 * w) (λ k. elements k and u16 entries (start + 2 * k) == e) or any 64 (λ b. bit members b and u16 entries (start + 128 * w + 2 * b) == e))
+      go k l t (yes a) = one (inl (among (k, a, t)))
       go k l t (no a) =
           let at : w * 64 + (k - 64 * w) ≡ k = omega arith in
           let place : start + 128 * w + 2 * (k - 64 * w) ≡ start + 2 * k = omega arith in
           one (inr (among (
             k - 64 * w,
             omega arith,
-            pair (bits (k - 64 * w) (omega arith) ∙ ap (λ (i : ℕ). i <? n and elements i) at ∙ both t .0)
-                (same! (ap (u16 entries) place ∙ same (both t .1))),
+            pair (bits (k - 64 * w) (omega arith) ∙ ap elements at ∙ both t .0) (same! (ap (u16 entries) place ∙ same (both t .1))),
           )))
 
-  -- those of all words
-  pub entries-all : n ≤ 512 → (e : ℕ) → entriesTo (64 * 8) e ≡ entriesOf n entries start elements e
-  unfolding entriesTo entriesOf
-  entries-all few e =
-      agree
-      (λ t. let k = some-of t in among (k .0, less (both (both (k .2) .0) .0), pair (both (both (k .2) .0) .1) (both (k .2) .1)))
-      (λ t. let k = some-of t in among (k .0, omega (arith, k .1), pair (pair (less! (k .1)) (both (k .2) .0)) (both (k .2) .1)))
-
--- sets that agree on the first n elements have the same entries of those
-pub entries-same : (n : ℕ) (entries : Bytes) (start : ℕ) (A B : ℕ → Bool) → ((k : ℕ) → k < n → A k ≡ B k) → (e : ℕ)
-    → entriesOf n entries start A e ≡ entriesOf n entries start B e
+-- a set that has just the first n elements of another
+pub entries-first : (n m : ℕ) (entries : Bytes) (start : ℕ) (A B : ℕ → Bool) → n ≤ m → ((k : ℕ) → k < m → A k ≡ (k <? n and B k)) → (e : ℕ)
+    → entriesOf m entries start A e ≡ entriesOf n entries start B e
 unfolding entriesOf
-entries-same n entries start A B h e =
+entries-first n m entries start A B few h e =
     agree
-    (λ t. let k = some-of t in among (k .0, k .1, pair (sym (h (k .0) (k .1)) ∙ both (k .2) .0) (both (k .2) .1)))
-    (λ t. let k = some-of t in among (k .0, k .1, pair (h (k .0) (k .1) ∙ both (k .2) .0) (both (k .2) .1)))
+    (λ t. let k = some-of t in let s = sym (h (k .0) (k .1)) ∙ both (k .2) .0 in among (k .0, less (both s .0), pair (both s .1) (both (k .2) .1)))
+    (λ t. let k = some-of t in
+    let l : k .0 < m = omega (arith, k .1) in
+    among (k .0, l, pair (h (k .0) l ∙ pair (less! (k .1)) (both (k .2) .0)) (both (k .2) .1)))

@@ -1,8 +1,8 @@
 -- A node filled from its operands' words: by kind, the pieces that are made are the node's sets of what the words hold, and there is
 -- room for them. Assumes nothing.
-use Prim.Native.Nat.{ℕ, zero, suc, _+_, _-_, _*_, _/_, _%_, _^_, _≤_, _<_}
+use Prim.Native.Nat.{ℕ, zero, suc, _+_, _-_, _*_, _/_, _%_, _≤_, _<_}
 use mathlib.Core.Path.{_≡_, refl, sym, ap, ap₂, _∙_}
-use mathlib.Core.Logic.{_⊎_, inl, inr}
+use mathlib.Core.Logic.{inl, inr}
 use mathlib.Core.Bool.{Bool, true, false}
 use mathlib.Core.List.{List}
 use native.Mathlib.Nat.{mul-le-mul-right, suc-mul}
@@ -10,23 +10,21 @@ use native.Mathlib.Numerals.{add-one}
 use native.Mathlib.Decide.{ℕ-discrete}
 use native.Mathlib.Omega.{arith}
 use lib.ListN.{length, getD}
-use Rattle.model.specs.Tests.{Is, _and_, _or_, non, any, pick, _==_, _<?_, _≤?_}
-use Rattle.model.specs.Bytes.{Bytes, byte, u16}
-use Rattle.model.specs.Partitions.{Partition, union, intersection, difference, image, preimage, contiguous, equalStart}
-use Rattle.model.specs.Layout.{Plan, mapCount, suppliedCount, nodeCount, source, target, suppliedRegion, nodeKind, nodeA, nodeB}
+use Rattle.model.specs.Tests.{_and_, _or_, pick, _==_, _<?_, non}
+use Rattle.model.specs.Partitions.{Partition, union, intersection, difference, image, preimage, contiguous}
+use Rattle.model.specs.Layout.{Plan, suppliedCount, nodeCount, source, target, suppliedRegion, nodeKind, nodeA, nodeB}
 use Rattle.model.specs.Nodes.{SUPPLIED, EQUAL, UNION, INTERSECTION, DIFFERENCE, IMAGE, PREIMAGE, nodeRegion}
 use Rattle.model.specs.DataSets.{DataSet, NONE, pieces, size, entryStart, entry, low, past, leads, pieceBytes, memberStart, suppliedBit, supplied}
 use Rattle.model.specs.Membership.{equal, operators, nodeSets}
-use Rattle.model.specs.Words.{bit, holds, word, store}
-use Rattle.model.specs.Evaluation.{wordsNeeded}
-use Rattle.model.proofs.Tests.{both, pair, either, one, less, less!, most, most!, same, same!, split, fails, some-of, among, pick-true, pick-false}
+use Rattle.model.specs.Words.{bit, holds, store}
+use Rattle.model.proofs.Tests.{both, pair, one, less, less!, most, most!, same, same!, split, fails, some-of, among, pick-true, pick-false, either}
 use Rattle.model.proofs.Words.{word-same, store-same}
 use Rattle.model.specs.AcceptedPlans.{Facts}
 use Rattle.model.proofs.Fitting.{Fit, entries-there}
 use Rattle.model.proofs.NodeSets.{TwoOperands, supplied-node, equal-node, union-node, intersection-node, difference-node, image-node, preimage-node, kind-known, region-small}
 use Rattle.bitsets.specs.Elements.{between, combination, combined, listed, entriesOf, leadingTo}
 use Rattle.subregions.specs.Pieces.{pieceWords, suppliedPieces, equalPieces, combinedPieces, imagePieces, preimagePieces, SuppliedRoom, EqualRoom, CombinedRoom, ImageRoom, PreimageRoom}
-use Rattle.subregions.specs.Fill.{held, nodeFilled, Handed, NodeHanded}
+use Rattle.subregions.specs.Fill.{held, nodeFilled, NodeHanded}
 use Rattle.bitsets.proofs.Bits.{agree, refute}
 use Rattle.subregions.proofs.Piece.{product}
 

@@ -4,7 +4,7 @@ use mathlib.Core.Path.{_≡_, sym, ap, _∙_}
 use mathlib.Core.List.{List}
 use lib.ListN.{getD}
 use Rattle.model.specs.Bytes.{u16}
-use Rattle.model.specs.Layout.{Plan, nodeCount, nodeKind, nodeA}
+use Rattle.model.specs.Layout.{Plan, nodeCount, nodeKind}
 use Rattle.model.specs.Nodes.{SUPPLIED, EQUAL, IMAGE, PREIMAGE, nodeRegion}
 use Rattle.model.specs.DataSets.{DataSet, size}
 use Rattle.model.proofs.NodeSets.{supplied-node, equal-node, image-node, preimage-node}

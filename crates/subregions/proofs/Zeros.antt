@@ -1,17 +1,18 @@
--- The zeros below a number's lowest one: the members of a word, found one after the other. Assumes nothing.
-use Prim.Native.Nat.{ℕ, zero, suc, _+_, _-_, _*_, _/_, _%_, _^_, _≤_, _<_, suc-le-suc}
+-- The zeros below a number's lowest one: the lowest member of a word, and the word without it. Assumes nothing.
+use Prim.Native.Nat.{ℕ, zero, suc, _-_, _/_, _%_, _^_, _≤_, _<_, suc-le-suc}
 use mathlib.Core.Path.{_≡_, refl, sym, ap, ap₂, _∙_, subst}
-use mathlib.Core.Bool.{Bool, true, false}
+use mathlib.Core.Bool.{Bool, false}
 use native.Mathlib.Numerals.{add-one}
 use native.Mathlib.Omega.{arith}
 use lib.Arith.{lt-one}
 use lib.Count.{trailingZeros, under}
-use lib.Pow.{shr-lt, shr-shr, shr-le}
-use Rattle.model.specs.Tests.{Is, _==_}
+use lib.Pow.{shr-lt}
+use lib.Bits.{bitAnd}
+use Rattle.model.specs.Tests.{Is, _and_, non, _==_}
 use Rattle.model.specs.Words.{bit}
-use Rattle.model.proofs.Tests.{same! }
-use Rattle.model.proofs.Words.{bit-first, bit-next, bit-zero}
-use Rattle.bitsets.proofs.Bits.{bit-down}
+use Rattle.model.proofs.Tests.{both, pair, lacks, refuted, same, same! }
+use Rattle.model.proofs.Words.{bit-first, bit-next}
+use Rattle.bitsets.proofs.Bits.{agree, refute, false-and, and-true, bit-and}
 
 -- they are zeros
 zeros-low : (d w e : ℕ) → e < trailingZeros d w → bit w e ≡ false
@@ -50,38 +51,42 @@ module _ where
       go f zero q = bit-next w (trailingZeros d (w / 2)) ∙ f (λ z. n (omega arith))
       go f (suc r) q = bit-first w ∙ same! (omega arith)
 
--- what is left of a word's members after m places
-module _ (members m rest : ℕ) (small : members < 2 ^ 64) (few : m ≤ 64) (left : rest ≡ members / 2 ^ m) where
-  rest-less : rest < 2 ^ (64 - m)
-  rest-less =
-      let whole : 64 - m + m ≡ 64 = omega arith in
-      subst (λ (x : ℕ). x < 2 ^ (64 - m)) (sym left) (shr-lt (64 - m) m (subst (λ (x : ℕ). members < 2 ^ x) (sym whole) small))
+-- a number less 1 has the same bits but for its lowest one and the zeros below
+lowest-cleared : (d w b : ℕ) → (w ≡ 0 → ⊥) → w < 2 ^ d → bit (bitAnd w (w - 1)) b ≡ (bit w b and non (b == trailingZeros d w))
+unfolding trailingZeros
+lowest-cleared zero w b some small = absurd (some (lt-one small))
+lowest-cleared (suc d) w b some small = go (λ b n. lowest-cleared d (w / 2) b n (half-less d w small)) (w % 2) refl b
+  where
+    go : ((b : ℕ) → (w / 2 ≡ 0 → ⊥) → bit (bitAnd (w / 2) (w / 2 - 1)) b ≡ (bit (w / 2) b and non (b == trailingZeros d (w / 2)))) → (r : ℕ) → w % 2 ≡ r
+        → (b : ℕ) → bit (bitAnd w (w - 1)) b ≡ (bit w b and non (b == under r (trailingZeros d (w / 2))))
+    go f zero q zero =
+        let none : bit w 0 ≡ false = bit-first w ∙ refute (λ t. let p = same t in omega arith) in
+        bit-and w (w - 1) 0 ∙ ap (λ (t : Bool). t and bit (w - 1) 0) none ∙ false-and _
+        ∙ sym (ap (λ (t : Bool). t and non (0 == suc (trailingZeros d (w / 2)))) none ∙ false-and _)
+    go f zero q (suc b) =
+        let half : (w - 1) / 2 ≡ w / 2 - 1 = omega arith in
+        bit-and w (w - 1) (suc b) ∙ ap₂ _and_ (bit-next w b) (bit-next (w - 1) b ∙ ap (λ (x : ℕ). bit x b) half) ∙ sym (bit-and (w / 2) (w / 2 - 1) b)
+        ∙ f b (λ z. some (omega arith))
+        ∙ ap₂ (λ (s t : Bool). s and non t) (sym (bit-next w b)) (agree (λ t. let p = same t in same! (omega arith)) (λ t. let p = same t in same! (omega arith)))
+    go f (suc r) q zero =
+        let even : bit (w - 1) 0 ≡ false = bit-first (w - 1) ∙ refute (λ t. let p = same t in omega arith) in
+        bit-and w (w - 1) 0 ∙ ap (λ (t : Bool). bit w 0 and t) (even ∙ sym (refute (λ h. lacks h (same! refl))))
+    go f (suc r) q (suc b) =
+        let half : (w - 1) / 2 ≡ w / 2 = omega arith in
+        bit-and w (w - 1) (suc b) ∙ ap₂ _and_ (bit-next w b) (bit-next (w - 1) b ∙ ap (λ (x : ℕ). bit x b) half)
+        ∙ agree (λ t. both t .0) (λ t. pair t t)
+        ∙ sym (ap₂ _and_ (bit-next w b) (refuted (λ h. let p = same h in omega arith)) ∙ and-true _)
 
-  -- where nothing is left there is no further member
-  pub rest-none : rest ≡ 0 → (b : ℕ) → m ≤ b → bit members b ≡ false
-  unfolding bit _==_
-  rest-none z b h =
-      let up : b ≡ m + (b - m) = omega arith in
-      ap (bit members) up ∙ sym (bit-down members m (b - m)) ∙ ap (λ (x : ℕ). bit x (b - m)) (sym left ∙ z) ∙ bit-zero (b - m)
+-- the lowest member of a word
+pub record Lowest (members t : ℕ) : Type 0 where
+  pub inside : t < 64
+  pub member : Is (bit members t)
+  pub cleared : (b : ℕ) → bit (bitAnd members (members - 1)) b ≡ (bit members b and non (b == t))
 
--- the next member stands behind t zeros
-pub record Next (members m rest t : ℕ) : Type 0 where
-  pub inside : m + t < 64
-  pub member : Is (bit members (m + t))
-  pub zeros : (b : ℕ) → m ≤ b → b < m + t → bit members b ≡ false
-  pub rest-is : rest / 2 ^ t / 2 ≡ members / 2 ^ (m + t + 1)
-
-pub next : (members m rest t : ℕ) → members < 2 ^ 64 → m ≤ 64 → rest ≡ members / 2 ^ m → (rest ≡ 0 → ⊥) → t ≡ trailingZeros 64 rest
-    → Next members m rest t
-next members m rest t small few left some is =
-    let less : rest < 2 ^ (64 - m) = rest-less members m rest small few left in
+pub lowest : (members t : ℕ) → members < 2 ^ 64 → (members ≡ 0 → ⊥) → t ≡ trailingZeros 64 members → Lowest members t
+lowest members t small some is =
     record {
-      inside = omega (arith, zeros-few 64 (64 - m) rest (omega arith) some less);
-      member =
-          sym (bit-down members m t) ∙ ap₂ (λ (x y : ℕ). bit x y) (sym left) is ∙ zeros-one 64 (64 - m) rest (omega arith) some less;
-      zeros = λ b l h.
-          let up : b ≡ m + (b - m) = omega arith in
-          ap (bit members) up ∙ sym (bit-down members m (b - m)) ∙ ap (λ (x : ℕ). bit x (b - m)) (sym left) ∙ zeros-low 64 rest (b - m) (omega arith);
-      rest-is =
-          ap (λ (x : ℕ). x / 2 ^ t / 2) left ∙ ap (λ (x : ℕ). x / 2) (shr-shr members m t) ∙ shr-shr members (m + t) 1;
+      inside = rw is (zeros-few 64 64 members (omega arith) some small);
+      member = rw is (zeros-one 64 64 members (omega arith) some small);
+      cleared = λ b. rw is (lowest-cleared 64 members b some small);
     }

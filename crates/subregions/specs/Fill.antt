@@ -1,10 +1,9 @@
 -- What filling the words means: node by node, each from the sets that the words before it hold.
-use Prim.Native.Nat.{ℕ, _+_, _*_, _/_, _≤_, _<_}
+use Prim.Native.Nat.{ℕ, _+_, _*_, _≤_, _<_}
 use mathlib.Core.Path.{_≡_}
 use mathlib.Core.List.{List}
 use lib.ListN.{length, getD}
 use Rattle.model.specs.Tests.{_and_, _<?_}
-use Rattle.model.specs.Bytes.{Bytes}
 use Rattle.model.specs.Partitions.{Partition}
 use Rattle.model.specs.Layout.{Plan, mapCount, suppliedCount, nodeCount}
 use Rattle.model.specs.Nodes.{nodeRegion}

@@ -1,47 +1,72 @@
 -- What the operators on one piece ask of the places they read and write.
-use Prim.Native.Nat.{ℕ, _+_, _*_, _≤_, _<_, _^_}
+use Prim.Native.Nat.{ℕ, _+_, _*_, _≤_, _<_, _^_, min}
+use mathlib.Core.Path.{_≡_}
+use mathlib.Core.Bool.{Bool, false}
 use mathlib.Core.List.{List}
-use lib.ListN.{length}
+use lib.ListN.{length, getD}
 use Rattle.model.specs.Tests.{Is}
-use Rattle.model.specs.Words.{bit}
+use Rattle.model.specs.Bytes.{u16}
+use Rattle.model.specs.Words.{bit, holds}
+use Rattle.bitsets.specs.Elements.{masked, addingEntries, through}
+
+-- a piece written
+pub record Writing (words piece : List ℕ) (at : ℕ) : Type 0 where
+  pub room : at + 8 ≤ length words
+  pub eight : 8 ≤ length piece
+
+-- eight of a piece's bytes, all of them inside where that is said
+pub record PieceBytes (members : List ℕ) (at : ℕ) (inside : Bool) : Type 0 where
+  pub near : at < 2 ^ 32
+  pub there : Is inside → at + 8 ≤ length members
 
 -- a piece copied from bytes, within a mask
-pub record Copying (words masks : List ℕ) (from at : ℕ) : Type 0 where
+pub record Copying (masks : List ℕ) (from : ℕ) : Type 0 where
   pub near : from < 2 ^ 31
-  pub room : at + 8 ≤ length words
   pub eight : 8 ≤ length masks
 
--- a piece made from two earlier ones
-pub record Combining (words masks : List ℕ) (a b at : ℕ) : Type 0 where
-  pub left : a + 8 ≤ at
-  pub right : b + 8 ≤ at
-  pub room : at + 8 ≤ length words
+-- a piece made from two others, within a mask
+pub record Combining (words masks : List ℕ) (a b : ℕ) : Type 0 where
+  pub left : a + 8 ≤ length words
+  pub right : b + 8 ≤ length words
   pub eight : 8 ≤ length masks
 
--- a piece made of the entries of a word's elements
-pub record AddingEntries (words entries : List ℕ) (start members at : ℕ) : Type 0 where
-  pub room : at + 8 ≤ length words
+-- the entries of a word's elements are there
+pub record AddingEntries (entries : List ℕ) (start members : ℕ) : Type 0 where
   pub inside : (b : ℕ) → b < 64 → Is (bit members b) → start + 2 * b + 2 ≤ length entries
 
--- the image of an earlier piece under a map of so many source elements
-pub record Image (words entries : List ℕ) (start count a at : ℕ) : Type 0 where
-  pub before : a + 8 ≤ at
-  pub room : at + 8 ≤ length words
-  pub few : count ≤ 512
-  pub inside : start + 2 * count ≤ length entries
+-- a set's words, and a spare one for entries that lead to no element
+pub record Holding (elements : ℕ → Bool) (words : List ℕ) : Type 0 where
+  pub nine : length words ≡ 9
+  pub small : (i : ℕ) → i < 9 → getD words i 0 < 2 ^ 64
+  pub holds-is : (e : ℕ) → e < 512 → holds words 0 e ≡ elements e
 
--- the preimage of an earlier piece, its region of a size
-pub record Preimage (words entries : List ℕ) (start count size a at : ℕ) : Type 0 where
-  pub before : a + 8 ≤ at
-  pub room : at + 8 ≤ length words
-  pub few : count ≤ 512
-  pub small : size ≤ 512
-  pub inside : start + 2 * count ≤ length entries
+-- the entries of a word's elements are added
+abbrev pub EntriesAdded : List ℕ → ℕ → ℕ → List ℕ → List ℕ → Type 0
+EntriesAdded entries start members old new = (elements : ℕ → Bool) → Holding elements old → Holding (addingEntries entries start members elements) new
 
--- a word of a preimage
-pub record PreimageWord (words entries : List ℕ) (start count size a w : ℕ) : Type 0 where
+-- the image of a piece within a mask, whose elements have entries
+pub record Image (words entries masks : List ℕ) (start a : ℕ) : Type 0 where
   pub room : a + 8 ≤ length words
-  pub eighth : w < 8
+  pub eight : 8 ≤ length masks
+  pub near : start ≤ length entries
+  pub inside : (k : ℕ) → k < 512 → Is (holds masks 0 k) → start + 2 * k + 2 ≤ length entries
+
+-- the elements that a map's entries lead to, one after the other; 512 for none, and behind the last entry
+pub record Targets (entries : List ℕ) (start count : ℕ) (table : List ℕ) : Type 0 where
+  pub all : length table ≡ 512
+  pub target-is : (k : ℕ) → k < count → getD table k 0 ≡ min (u16 entries (start + 2 * k)) 512
+  pub rest : (k : ℕ) → count ≤ k → k < 512 → getD table k 0 ≡ 512
+
+-- the elements of a piece within a mask, element 512 not among them
+pub record Operand (words masks : List ℕ) (a : ℕ) (set : List ℕ) : Type 0 where
+  pub nine : length set ≡ 9
+  pub holds-is : (e : ℕ) → e < 512 → holds set 0 e ≡ masked masks (holds words a) e
+  pub spare : holds set 0 512 ≡ false
+
+-- a table of elements, and a set that they may be in; from some place on none of them is
+pub record Preimage (table set : List ℕ) (count : ℕ) : Type 0 where
+  pub all : length table ≡ 512
+  pub nine : length set ≡ 9
+  pub small : (k : ℕ) → k < 512 → getD table k 0 ≤ 512
   pub few : count ≤ 512
-  pub small : size ≤ 512
-  pub inside : start + 2 * count ≤ length entries
+  pub past : (k : ℕ) → count ≤ k → k < 512 → through table set k ≡ false

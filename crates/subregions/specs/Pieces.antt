@@ -1,6 +1,5 @@
 -- The pieces that the fills make, from numbers, bytes and words alone, and the places they need.
 use Prim.Native.Nat.{ℕ, _+_, _*_, _/_, _%_, _^_, _≤_, _<_}
-use mathlib.Core.Bool.{Bool}
 use mathlib.Core.List.{List}
 use lib.ListN.{length}
 use Rattle.model.specs.Tests.{_and_, _<?_}

@@ -37,37 +37,16 @@ pub fn fill_node(
     let a = byte_at(nodes, j * 4 + 1);
     let b = byte_at(nodes, j * 4 + 2);
     let size = number_at(node_sizes, j);
+    let from = number_at(member_starts, a);
+    let start = number_at(entry_starts, b);
+    let operand_size = number_at(node_sizes, a);
     let at = j * pieces * 8;
     let left = a * pieces * 8;
     match kind {
-        0 => fill_supplied(
-            words,
-            members,
-            number_at(member_starts, a),
-            size,
-            pieces,
-            at,
-        ),
+        0 => fill_supplied(words, members, from, size, pieces, at),
         1 => fill_equal(words, size, pieces, at),
-        5 => fill_image(
-            words,
-            entries,
-            number_at(entry_starts, b),
-            number_at(node_sizes, a),
-            left,
-            pieces,
-            at,
-        ),
-        6 => fill_preimage(
-            words,
-            entries,
-            number_at(entry_starts, b),
-            size,
-            number_at(node_sizes, a),
-            left,
-            pieces,
-            at,
-        ),
+        5 => fill_image(words, entries, start, operand_size, left, pieces, at),
+        6 => fill_preimage(words, entries, start, size, operand_size, left, pieces, at),
         _ => fill_combined(words, kind, left, b * pieces * 8, size, pieces, at),
     }
 }

@@ -1,73 +1,89 @@
 // The operators on one piece: its eight words are made from numbers, bytes, or the words of earlier pieces.
-use bitsets::words::add;
 use bitsets::words::combine;
 use bitsets::words::eight_bytes;
+use bitsets::words::inside_bytes;
 use bitsets::words::lowest;
 use bitsets::words::reverse_bytes;
-use bitsets::words::test;
-use bitsets::words::word_below;
 use bitsets::words::word_between;
+use dataset::data::u16_inside;
 ghost use mathlib.Core.Path.{_≡_};
-ghost use Prim.Native.Nat.{ℕ, _+_, _*_, _≤_, _<_, _^_, min};
+ghost use Prim.Native.Nat.{_+_, _*_, _≤_, _<_, min};
 ghost use lib.ListN.{length};
 ghost use Rattle.model.specs.Bytes.{u16};
-ghost use Rattle.model.specs.Words.{holds, word, store};
-ghost use Rattle.bitsets.specs.Elements.{none, between, masked, combined, listed, entriesOf, addingEntries, leadingTo};
-ghost use Rattle.subregions.specs.Operators.{Copying, Combining, AddingEntries, Image, Preimage, PreimageWord};
+ghost use Rattle.model.specs.Words.{digit, holds, number, word, store};
+ghost use Rattle.bitsets.specs.Elements.{between, masked, combined, listed, bytesBits, entriesOf, through, wordAt, PieceOf};
+ghost use Rattle.subregions.specs.Operators.{Writing, PieceBytes, Copying, Combining, AddingEntries, EntriesAdded, Image, Targets, Operand, Preimage};
 
-// The byte as a number.
-fn wide(x: u8) -> usize
-    ensures { λ r. ⌜ (r ≡ x) × (r < 256) ⌝ }
+// An entry of a table as a number.
+fn wide(x: u16) -> usize
+    ensures { λ r. ⌜ r ≡ x ⌝ }
 {
     x as usize
 }
 
-// The piece at word `at` becomes empty.
-fn clear(words: &mut [u64], at: usize)
-    requires { ⌜ at + 8 ≤ length (now words) ⌝ }
-    ensures { λ _. ⌜ now (words .exit) ≡ store (now (words .entry)) at 8 (word none) ⌝ }
+// The piece at word `at` becomes the first eight words of another.
+pub fn write_piece(words: &mut [u64], at: usize, piece: &[u64])
+    requires { ⌜ Writing (now words) (now piece) at ⌝ }
+    ensures { λ _. ⌜ now (words .exit) ≡ store (now (words .entry)) at 8 (wordAt (now (piece .entry))) ⌝ }
 {
     for w in 0..8 {
-        words[at + w] = 0;
+        words[at + w] = piece[w];
     }
 }
 
-// The piece becomes the elements from low up to, not including, high.
-pub fn fill_between(words: &mut [u64], low: usize, high: usize, at: usize)
-    requires { ⌜ at + 8 ≤ length (now words) ⌝ }
-    ensures { λ _. ⌜ now (words .exit) ≡ store (now (words .entry)) at 8 (word (between low high)) ⌝ }
+// The elements from low up to, not including, high; only the words that have one are made.
+pub fn range_piece(low: usize, high: usize) -> [u64; 8]
+    requires { ⌜ (low ≤ 512) × (high ≤ 512) ⌝ }
+    ensures { λ r. ⌜ PieceOf (between low high) r ⌝ }
 {
-    for w in 0..8 {
-        words[at + w] = word_between(low, high, w);
+    let mut piece = [0; 8];
+    let mut w = low / 64;
+    while 64 * w < high {
+        piece[w] = word_between(low, high, w);
+        w += 1;
+    }
+    piece
+}
+
+// Eight of a piece's bytes, which may all be known to be there.
+fn piece_bytes(members: &[u8], at: usize, inside: bool) -> u64
+    requires { ⌜ PieceBytes (now members) at inside ⌝ }
+    ensures { λ r. ⌜ r ≡ number 64 (bytesBits (now (members .entry)) at) ⌝ }
+{
+    if inside {
+        inside_bytes(members, at)
+    } else {
+        eight_bytes(members, at)
     }
 }
 
-// The piece becomes the set that a supplied partition's bytes list, within the mask.
-pub fn copy_supplied(words: &mut [u64], members: &[u8], masks: &[u64], from: usize, at: usize)
-    requires { ⌜ Copying (now words) (now masks) from at ⌝ }
-    ensures { λ _. ⌜ now (words .exit) ≡ store (now (words .entry)) at 8 (word (masked (now (masks .entry)) (listed (now (members .entry)) from))) ⌝ }
+// The set that a supplied partition's bytes list, within the mask.
+pub fn supplied_piece(members: &[u8], masks: &[u64], from: usize) -> [u64; 8]
+    requires { ⌜ Copying (now masks) from ⌝ }
+    ensures { λ r. ⌜ PieceOf (masked (now (masks .entry)) (listed (now (members .entry)) from)) r ⌝ }
 {
-    for w in 0..8 {
-        words[at + w] = reverse_bytes(eight_bytes(members, from + 8 * w)) & masks[w];
+    let inside = from + 64 <= members.len();
+    let mut piece = [0; 8];
+    let mut w = 0;
+    while w < 8 {
+        piece[w] = reverse_bytes(piece_bytes(members, from + 8 * w, inside)) & masks[w];
+        w += 1;
     }
+    piece
 }
 
-// The piece becomes the union (kind 2), intersection (3) or difference (4) of the pieces at a and b, within the mask.
-pub fn combine_pieces(words: &mut [u64], masks: &[u64], kind: usize, a: usize, b: usize, at: usize)
-    requires { ⌜ Combining (now words) (now masks) a b at ⌝ }
-    ensures { λ _. ⌜ now (words .exit) ≡ store (now (words .entry)) at 8 (word (masked (now (masks .entry)) (combined kind (holds (now (words .entry)) a) (holds (now (words .entry)) b)))) ⌝ }
+// The union (kind 2), intersection (3) or difference (4) of the pieces at a and b, within the mask.
+pub fn combined_piece(words: &[u64], masks: &[u64], kind: usize, a: usize, b: usize) -> [u64; 8]
+    requires { ⌜ Combining (now words) (now masks) a b ⌝ }
+    ensures { λ r. ⌜ PieceOf (masked (now (masks .entry)) (combined kind (holds (now (words .entry)) a) (holds (now (words .entry)) b))) r ⌝ }
 {
-    for w in 0..8 {
-        words[at + w] = combine(kind, words[a + w], words[b + w]) & masks[w];
+    let mut piece = [0; 8];
+    let mut w = 0;
+    while w < 8 {
+        piece[w] = combine(kind, words[a + w], words[b + w]) & masks[w];
+        w += 1;
     }
-}
-
-// The entry at a place.
-fn entry(entries: &[u8], at: usize) -> usize
-    requires { ⌜ at + 2 ≤ length (now entries) ⌝ }
-    ensures { λ r. ⌜ r ≡ u16 (now (entries .entry)) at ⌝ }
-{
-    wide(entries[at]) * 256 + wide(entries[at + 1])
+    piece
 }
 
 // The smaller of two numbers.
@@ -77,75 +93,103 @@ pub fn least(a: usize, b: usize) -> usize
     if a < b { a } else { b }
 }
 
-// Word w of the preimage of the piece at a, from its highest element down.
-fn preimage_word(
-    words: &[u64],
-    entries: &[u8],
-    start: usize,
-    count: usize,
-    size: usize,
-    a: usize,
-    w: usize,
-) -> u64
-    requires { ⌜ PreimageWord (now words) (now entries) start count size a w ⌝ }
-    ensures { λ r. ⌜ r ≡ word (leadingTo count (now (entries .entry)) start size (holds (now (words .entry)) a)) w ⌝ }
+// The element that an entry leads to; 512 where it leads to none.
+fn target(entries: &[u8], at: usize) -> usize
+    requires { ⌜ at + 2 ≤ length (now entries) ⌝ }
+    ensures { λ r. ⌜ r ≡ min (u16 (now (entries .entry)) at) 512 ⌝ }
+{
+    least(u16_inside(entries, at) as usize, 512)
+}
+
+// The elements that a map's entries lead to.
+pub fn targets(entries: &[u8], start: usize, count: usize) -> [u16; 512]
+    requires { ⌜ (count ≤ 512) × (start + 2 * count ≤ length (now entries)) ⌝ }
+    ensures { λ r. ⌜ Targets (now (entries .entry)) start count r ⌝ }
+{
+    let mut table = [512; 512];
+    let mut k = 0;
+    while k < count {
+        table[k] = target(entries, start + 2 * k) as u16;
+        k += 1;
+    }
+    table
+}
+
+// The elements of the piece at a, within the mask, and a spare word for element 512.
+pub fn operand_set(words: &[u64], masks: &[u64], a: usize) -> [u64; 9]
+    requires { ⌜ (a + 8 ≤ length (now words)) × (8 ≤ length (now masks)) ⌝ }
+    ensures { λ r. ⌜ Operand (now (words .entry)) (now (masks .entry)) a r ⌝ }
+{
+    let mut set = [0; 9];
+    let mut w = 0;
+    while w < 8 {
+        set[w] = words[a + w] & masks[w];
+        w += 1;
+    }
+    set
+}
+
+// Whether a set holds element e: 1 or 0.
+fn member(set: &[u64], e: usize) -> u64
+    requires { ⌜ (length (now set) ≡ 9) × (e ≤ 512) ⌝ }
+    ensures { λ r. ⌜ r ≡ digit (holds (now (set .entry)) 0 e) ⌝ }
+{
+    (set[e / 64] >> (e % 64)) & 1
+}
+
+// Word w of the places whose element is in the set, from its highest place down.
+fn preimage_word(table: &[u16], set: &[u64], count: usize, w: usize) -> u64
+    requires { ⌜ (64 * w < count) × Preimage (now table) (now set) count ⌝ }
+    ensures { λ r. ⌜ r ≡ word (through (now (table .entry)) (now (set .entry))) w ⌝ }
 {
     let first = 64 * w;
-    if count <= first {
-        return 0;
-    }
     let mut k = least(count, first + 64);
     let mut result: u64 = 0;
     while k > first {
         k -= 1;
-        result = result * 2 + test(words, a, size, entry(entries, start + 2 * k));
+        result = result * 2 + member(set, wide(table[k]));
     }
     result
 }
 
-// The piece becomes the preimage of the piece at a under a map of so many source elements, its target of a size.
-pub fn preimage(
-    words: &mut [u64],
-    entries: &[u8],
-    start: usize,
-    count: usize,
-    size: usize,
-    a: usize,
-    at: usize,
-)
-    requires { ⌜ Preimage (now words) (now entries) start count size a at ⌝ }
-    ensures { λ _. ⌜ now (words .exit) ≡ store (now (words .entry)) at 8 (word (leadingTo count (now (entries .entry)) start size (holds (now (words .entry)) a))) ⌝ }
+// The places whose element is in the set; the words from place `count` on stay 0.
+pub fn preimage_piece(table: &[u16], set: &[u64], count: usize) -> [u64; 8]
+    requires { ⌜ Preimage (now table) (now set) count ⌝ }
+    ensures { λ r. ⌜ PieceOf (through (now (table .entry)) (now (set .entry))) r ⌝ }
 {
-    for w in 0..8 {
-        let value = preimage_word(words, entries, start, count, size, a, w);
-        words[at + w] = value;
+    let mut piece = [0; 8];
+    let mut w = 0;
+    while 64 * w < count {
+        piece[w] = preimage_word(table, set, count, w);
+        w += 1;
     }
+    piece
 }
 
-// Adds to the piece at `at` the entries of a word's members; the entry of its first element stands at `start`.
-fn add_entries(words: &mut [u64], entries: &[u8], start: usize, members: u64, at: usize)
-    requires { ⌜ AddingEntries (now words) (now entries) start members at ⌝ }
-    ensures { λ _. ⌜ now (words .exit) ≡ store (now (words .entry)) at 8 (word (addingEntries (now (entries .entry)) start members (holds (now (words .entry)) at))) ⌝ }
+// Adds to a set the entries of a word's members; the entry of its first element stands at `start`.
+fn add_entries(set: &mut [u64; 9], entries: &[u8], start: usize, members: u64)
+    requires { ⌜ AddingEntries (now entries) start members ⌝ }
+    ensures { λ _. ⌜ EntriesAdded (now (entries .entry)) start members (now (set .entry)) (now (set .exit)) ⌝ }
 {
     let mut rest = members;
-    let mut passed = 0;
     while rest != 0 {
-        let zeros = lowest(rest);
-        let next = passed + zeros;
-        add(words, at, entry(entries, start + 2 * next));
-        rest = (rest >> zeros) >> 1;
-        passed = next + 1;
+        let e = target(entries, start + 2 * lowest(rest));
+        set[e / 64] = set[e / 64] | (1 << (e % 64));
+        rest = rest & (rest - 1);
     }
 }
 
-// The piece becomes the image of the piece at a under a map of so many source elements.
-pub fn image(words: &mut [u64], entries: &[u8], start: usize, count: usize, a: usize, at: usize)
-    requires { ⌜ Image (now words) (now entries) start count a at ⌝ }
-    ensures { λ _. ⌜ now (words .exit) ≡ store (now (words .entry)) at 8 (word (entriesOf count (now (entries .entry)) start (holds (now (words .entry)) a))) ⌝ }
+// The image of the elements within the mask of the piece at a, and a spare word; the entries begin at a place.
+pub fn image_piece(words: &[u64], entries: &[u8], masks: &[u64], start: usize, a: usize) -> [u64; 9]
+    requires { ⌜ Image (now words) (now entries) (now masks) start a ⌝ }
+    ensures { λ r. ⌜ PieceOf (entriesOf 512 (now (entries .entry)) start (masked (now (masks .entry)) (holds (now (words .entry)) a))) r ⌝ }
 {
-    clear(words, at);
-    for w in 0..8 {
-        let members = words[a + w] & word_below(count, w);
-        add_entries(words, entries, start + 128 * w, members, at);
+    let mut set = [0; 9];
+    let mut w = 0;
+    while w < 8 {
+        let members = words[a + w] & masks[w];
+        add_entries(&mut set, entries, start + 128 * w, members);
+        w += 1;
     }
+    set
 }

@@ -1,13 +1,16 @@
 // The operators on a node's pieces, one after the other: eight words each, from word `at` on.
-use crate::operators::combine_pieces;
-use crate::operators::copy_supplied;
-use crate::operators::fill_between;
-use crate::operators::image;
+use crate::operators::combined_piece;
+use crate::operators::image_piece;
 use crate::operators::least;
-use crate::operators::preimage;
+use crate::operators::operand_set;
+use crate::operators::preimage_piece;
+use crate::operators::range_piece;
+use crate::operators::supplied_piece;
+use crate::operators::targets;
+use crate::operators::write_piece;
 use bitsets::words::region_masks;
 ghost use mathlib.Core.Path.{_≡_};
-ghost use Prim.Native.Nat.{_+_, _*_, _≤_, _<_, min};
+ghost use Prim.Native.Nat.{_+_, _*_, _≤_, min};
 ghost use Rattle.model.specs.Words.{store};
 ghost use Rattle.subregions.specs.Pieces.{pieceWords, suppliedPieces, equalPieces, combinedPieces, imagePieces, preimagePieces, SuppliedRoom, EqualRoom, CombinedRoom, ImageRoom, PreimageRoom};
 
@@ -26,7 +29,8 @@ pub fn fill_supplied(
     let masks = region_masks(size);
     let bytes = (size + 7) / 8;
     for i in 0..pieces {
-        copy_supplied(words, members, &masks, from + i * bytes, at + i * 8);
+        let piece = supplied_piece(members, &masks, from + i * bytes);
+        write_piece(words, at + i * 8, &piece);
     }
 }
 
@@ -48,7 +52,8 @@ pub fn fill_equal(words: &mut [u64], size: usize, pieces: usize, at: usize)
     for i in 0..pieces {
         let low = equal_start(quotient, remainder, i);
         let high = equal_start(quotient, remainder, i + 1);
-        fill_between(words, low, high, at + i * 8);
+        let piece = range_piece(low, high);
+        write_piece(words, at + i * 8, &piece);
     }
 }
 
@@ -67,7 +72,8 @@ pub fn fill_combined(
 {
     let masks = region_masks(size);
     for i in 0..pieces {
-        combine_pieces(words, &masks, kind, a + i * 8, b + i * 8, at + i * 8);
+        let piece = combined_piece(words, &masks, kind, a + i * 8, b + i * 8);
+        write_piece(words, at + i * 8, &piece);
     }
 }
 
@@ -84,8 +90,10 @@ pub fn fill_image(
     requires { ⌜ ImageRoom (now words) (now entries) start count a pieces at ⌝ }
     ensures { λ _. ⌜ now (words .exit) ≡ store (now (words .entry)) at (pieces * 8) (pieceWords (imagePieces (now (words .entry)) (now (entries .entry)) start count a)) ⌝ }
 {
+    let masks = region_masks(count);
     for i in 0..pieces {
-        image(words, entries, start, count, a + i * 8, at + i * 8);
+        let piece = image_piece(words, entries, &masks, start, a + i * 8);
+        write_piece(words, at + i * 8, &piece);
     }
 }
 
@@ -103,7 +111,11 @@ pub fn fill_preimage(
     requires { ⌜ PreimageRoom (now words) (now entries) start count size a pieces at ⌝ }
     ensures { λ _. ⌜ now (words .exit) ≡ store (now (words .entry)) at (pieces * 8) (pieceWords (preimagePieces (now (words .entry)) (now (entries .entry)) start count size a)) ⌝ }
 {
+    let masks = region_masks(size);
+    let table = targets(entries, start, count);
     for i in 0..pieces {
-        preimage(words, entries, start, count, size, a + i * 8, at + i * 8);
+        let set = operand_set(words, &masks, a + i * 8);
+        let piece = preimage_piece(&table, &set, count);
+        write_piece(words, at + i * 8, &piece);
     }
 }

@@ -5,21 +5,11 @@ use borrow.Author.Needs.{needs}
 use Rattle.evaluate.proofs.accepted.piece_count.Statement.{statement}
 use Rattle.evaluate.proofs.accepted.piece_count.Tie as tie
 
--- src/lib.rt:31:8
-u16-at-requires : tie.Need-u16-at-requires
-u16-at-requires c κs = search needs
-
--- src/lib.rt:34:9
-byte-at-requires : tie.Need-byte-at-requires
-byte-at-requires c κs = search needs
-
--- src/lib.rt:28:1
 returns : tie.Need-returns
 returns c = (pieces-none _ (sym (c .before .u16-at .ensures .0) ∙ c .if1 .taken), search needs)
 
--- src/lib.rt:28:1
 returns-2 : tie.Need-returns-2
 returns-2 c = (c .byte-at .ensures .0 ∙ pieces-first _ (λ z. c .before .if1 .left (c .before .before .u16-at .ensures .0 ∙ z)), c .byte-at .ensures .1)
 
 pub piece-count-spec : {M : Type 1} → statement M
-piece-count-spec = tie.close (tie.spec u16-at-requires byte-at-requires returns returns-2)
+piece-count-spec = tie.close (tie.spec (λ c κs. search needs) (λ c κs. search needs) returns returns-2)

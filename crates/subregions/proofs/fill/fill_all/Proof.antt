@@ -1,5 +1,5 @@
 -- The loop has the members of each node passed in its words. Assumes nothing.
-use Prim.Native.Nat.{ℕ, _*_, _/_, _-_, _≤_}
+use Prim.Native.Nat.{_*_, _/_, _-_, _≤_}
 use mathlib.Core.Path.{_≡_, refl, _∙_}
 use native.Mathlib.Omega.{arith}
 use lib.ListN.{length}

@@ -1,10 +1,9 @@
 -- The loop has the size of each node passed in its place. Assumes nothing.
-use Prim.Native.Nat.{ℕ, _/_, _-_, _≤_, _<_}
-use mathlib.Core.Path.{_≡_, refl, sym, ap}
+use Prim.Native.Nat.{_/_, _-_, _≤_}
+use mathlib.Core.Path.{_≡_, refl}
 use native.Mathlib.Omega.{arith}
-use mathlib.Core.List.{List}
 use lib.ListN.{length, length-set}
-use Rattle.model.specs.Layout.{Plan, nodeCount}
+use Rattle.model.specs.Layout.{Plan}
 use Rattle.model.specs.Nodes.{nodeRegion}
 use Rattle.model.specs.DataSets.{DataSet, size}
 use Rattle.subregions.specs.Fill.{SizesHanded, NodeSizes}

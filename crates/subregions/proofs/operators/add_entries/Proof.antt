@@ -1,85 +1,72 @@
--- The loop finds the members one after the other, each behind zeros, and adds its entry. Assumes nothing.
-use Rattle.model.proofs.Words.{word-same, store-same}
-use Prim.Native.Nat.{ℕ, _+_, _-_, _*_, _/_, _^_, _≤_, _<_}
-use mathlib.Core.Path.{_≡_, refl, sym, ap, _∙_}
+-- The loop takes the lowest member off the rest and adds its entry. Assumes nothing.
+use Prim.Native.Nat.{ℕ, _-_, _≤_}
+use mathlib.Core.Bool.{Bool}
+use mathlib.Core.Path.{refl, sym, ap, _∙_}
+use native.Mathlib.Nat.{le-refl}
+use lib.Bits.{and-le-l, and-le-r}
 use native.Mathlib.Omega.{arith}
-use native.Mathlib.Nat.{div-one}
-use lib.ListN.{length}
-use Rattle.model.specs.Words.{holds, word, store}
-use Rattle.model.proofs.Words.{store-length}
-use Rattle.subregions.proofs.Maps.{gathered, gathered-none, gathered-next, gathered-all}
-use Rattle.subregions.proofs.Piece.{piece-held, piece-holds, piece-again}
-use Rattle.subregions.proofs.Zeros.{Next, next, rest-none}
+use Rattle.model.specs.Tests.{Is, _or_, _==_}
+use Rattle.model.proofs.Tests.{both}
+use Rattle.model.specs.Words.{bit}
+use Rattle.subregions.specs.Operators.{Holding}
+use Rattle.subregions.proofs.Maps.{gathered, gathered-none, gathered-next, gathered-all, leads-to}
+use Rattle.subregions.proofs.Piece.{holding-same, holding-added}
+use Rattle.subregions.proofs.Zeros.{Lowest, lowest}
 use borrow.Author.Needs.{needs}
 use Rattle.subregions.proofs.operators.add_entries.Statement.{statement}
 use Rattle.subregions.proofs.operators.add_entries.Tie as tie
 
 abbrev Inv-loop : tie.InvT-loop
-Inv-loop words₀ entries start members at rest₀ passed₀ words rest passed = (passed ≤ 64) × (rest ≡ members / 2 ^ passed)
-    × (words ≡ store words₀ at 8 (word (gathered entries start members (holds words₀ at) passed))) × (length words ≡ length words₀)
+Inv-loop set₀ entries start members rest₀ set rest = (rest ≤ members) × ((b : ℕ) → Is (bit rest b) → Is (bit members b))
+    × ((elements : ℕ → Bool) → Holding elements set₀ → Holding (gathered entries start members elements rest) set)
 
 abbrev μ-loop : tie.MeasureT-loop
-μ-loop words₀ entries start members at rest₀ passed₀ words rest passed = 64 - passed
+μ-loop set₀ entries start members rest₀ set rest = rest
 
--- the member that the loop finds
-found : (c : tie.After-lowest Inv-loop μ-loop)
-    → Next (c .before .before .before .before .before .args .members) (c .before .before .loop .passed) (c .before .before .loop .rest) (c .lowest .result)
+-- the member that the loop takes
+found : (c : tie.After-lowest Inv-loop μ-loop) → Lowest (c .before .before .loop .rest) (c .lowest .result)
 found c =
     let l = c .before .before .loop in
-    next _ _ _ _ (c .before .before .before .before .before .fits .members .fits) (l .inv .0) (l .inv .1) (c .before .loop-test .taken) (c .lowest .ensures)
+    lowest (l .rest) _ (omega (arith, l .inv .0, c .before .before .before .before .fits .members .fits)) (c .before .loop-test .taken) (c .lowest .ensures)
 
 loop-holds : tie.Need-loop-holds Inv-loop μ-loop
-loop-holds c =
-    let a = c .before .before .args in (
-      omega arith,
-      sym (div-one (a .members)),
-      piece-held _ _ _ (c .before .before .pre .room) (λ i. c .before .slice-known .given i .fits) (λ e h. gathered-none _ _ _ _ e),
-      refl,
-    )
+loop-holds c = (le-refl _, λ b t. t, λ elements h. holding-same _ _ _ h (λ e l. gathered-none _ _ _ _ e))
 
-add-next : tie.Need-add-next Inv-loop μ-loop
-add-next c = omega (arith, found c .inside)
+mul-target : tie.Need-mul-target Inv-loop μ-loop
+mul-target c = omega (arith, found c .inside)
 
-mul-entry : tie.Need-mul-entry Inv-loop μ-loop
-mul-entry c = omega (arith, found (c .before) .inside)
+-- its entry is there
+target-requires : tie.Need-target-requires Inv-loop μ-loop
+target-requires c κs =
+    let n = found c in
+    c .before .before .before .before .pre .inside _ (n .inside) (c .before .before .loop .inv .1 _ (n .member))
 
-add-entry : tie.Need-add-entry Inv-loop μ-loop
-add-entry c =
-    let n = found (c .before) in
-    omega (arith, c .before .before .before .before .before .before .pre .inside _ (n .inside) (n .member), c .before .before .before .before .before .before .good)
-
-entry-requires : tie.Need-entry-requires Inv-loop μ-loop
-entry-requires c κs =
-    let n = found (c .before) in
-    c .before .before .before .before .before .before .pre .inside _ (n .inside) (n .member)
-
-shr-rest : tie.Need-shr-rest Inv-loop μ-loop
-shr-rest c = omega (arith, found (c .before .before .before .before .before) .inside)
-
-add-passed : tie.Need-add-passed Inv-loop μ-loop
-add-passed c = omega (arith, found (c .before .before .before .before .before) .inside)
+add-target : tie.Need-add-target Inv-loop μ-loop
+add-target c =
+    let n = found c in
+    omega (arith, c .before .before .before .before .pre .inside _ (n .inside) (c .before .before .loop .inv .1 _ (n .member)), c .before .before .before .before .good)
 
 loop-less : tie.Need-loop-less Inv-loop μ-loop
-loop-less c = omega (arith, found (c .before .before .before .before .before) .inside)
+loop-less c =
+    let l = c .before .before .before .before .loop in
+    omega (arith, and-le-r (l .rest) (l .rest - 1), c .before .before .before .loop-test .taken)
 
 loop-again : tie.Need-loop-again Inv-loop μ-loop
 loop-again c =
-    let n = found (c .before .before .before .before .before) in
-    let l = c .before .before .before .before .before .before .before .loop in
-    let s = c .before .before .before .before .before .before .before .before .before .before in
-    let t = c .before .before .before .before .before .lowest .result in
-    let added = piece-again _ (l .words) _ _ (s .pre .room) (l .inv .2) _ _ (gathered (s .args .entries .now) (s .args .start) (s .args .members) (holds (s .args .words .now) (s .args .at)) (l .passed + t + 1))
-    (c .before .before .add .ensures)
-    (λ e h. gathered-next _ _ _ _ (l .passed) (l .passed + t) _ (omega arith) (n .zeros) (n .member) (c .before .before .before .entry .ensures) _ e
-    (piece-holds _ _ _ _ (s .pre .room) (l .inv .2) e h)) in
-    (omega (arith, n .inside), n .rest-is, added, ap length added ∙ store-length _ _ _ _)
+    let n = found (c .before .before) in
+    let l = c .before .before .before .before .loop in
+    let a = c .before .before .before .before .before .before .args in (
+      omega (arith, and-le-l (l .rest) (l .rest - 1), l .inv .0),
+      λ b t. l .inv .1 b (both (sym (n .cleared b) ∙ t) .0),
+      λ elements h. holding-added _ _ _ _ (omega (arith, c .before .target .ensures)) (l .inv .2 elements h)
+          (λ e m. ap (λ (v : ℕ). gathered (a .entries .now) (a .start) (a .members) elements (l .rest) e or e == v) (c .before .target .ensures)
+          ∙ ap (λ (t : Bool). gathered (a .entries .now) (a .start) (a .members) elements (l .rest) e or t) (leads-to _ e m)
+          ∙ gathered-next (a .entries .now) (a .start) (a .members) elements (l .rest) _ _ _ (n .inside) (n .member) (l .inv .1 _ (n .member)) refl (n .cleared) e),
+    )
 
 returns : tie.Need-returns Inv-loop μ-loop
 returns c =
-    let l = c .before .loop in
-    let s = c .before .before .before .before in
-    l .inv .2 ∙ store-same _ _ _ _ _ (λ w h. word-same _ _ w (λ b k. gathered-all _ _ _ _ (l .passed) (l .inv .0)
-    (rest-none _ (l .passed) (l .rest) (s .fits .members .fits) (l .inv .0) (l .inv .1) (c .loop-test .left)) (w * 64 + b)))
+    λ elements h. holding-same _ _ _ (c .before .loop .inv .2 elements h) (λ e l. gathered-all _ _ _ _ _ (c .loop-test .left) e)
 
 pub add-entries-spec : {M : Type 1} → statement M
 add-entries-spec =
@@ -89,14 +76,15 @@ add-entries-spec =
     μ-loop
     loop-holds
     (λ c κs. search needs)
-    add-next
-    mul-entry
-    add-entry
-    entry-requires
-    (λ c κs. search needs)
-    shr-rest
-    add-passed
+    mul-target
+    add-target
+    target-requires
+    (λ c. search needs)
+    (λ c. search needs)
+    (λ c. search needs)
+    (λ c. search needs)
+    (λ c. search needs)
+    (λ c. search needs)
     loop-less
     loop-again
-    (λ c. search needs)
     returns)

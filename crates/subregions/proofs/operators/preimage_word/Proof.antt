@@ -1,58 +1,56 @@
--- The loop makes the word from its highest element down: that is how a number of bits is defined. Assumes nothing.
-use Prim.Native.Nat.{_<_}
-use Prim.Native.Nat.{_+_, _-_, _*_, _≤_, min}
+-- The loop makes the word from its highest place down: that is how a number of bits is defined. Assumes nothing.
+use Prim.Native.Nat.{ℕ, _+_, _-_, _*_, _≤_, _<_, min}
 use mathlib.Core.Path.{_≡_, ap, _∙_}
 use native.Mathlib.Omega.{arith}
-use Rattle.model.specs.Tests.{_and_, _<?_}
 use Rattle.model.specs.Words.{digit, holds}
 use Rattle.model.proofs.Words.{digit-less}
-use Rattle.bitsets.specs.Elements.{leadingTo}
-use Rattle.subregions.proofs.Maps.{upper, upper-none, upper-room, upper-next, upper-all, leading-past, leading-at}
+use Rattle.bitsets.specs.Elements.{through}
+use Rattle.subregions.proofs.Maps.{upper, upper-none, upper-room, upper-next, upper-all}
 use borrow.Author.Needs.{needs}
 use Rattle.subregions.proofs.operators.preimage_word.Statement.{statement}
 use Rattle.subregions.proofs.operators.preimage_word.Tie as tie
 
 abbrev Inv-loop : tie.InvT-loop
-Inv-loop words entries start count size a w first k₀ result₀ k result = (64 * w ≤ k) × (k ≤ min count (64 * w + 64)) × (result ≡ upper (leadingTo count entries start size (holds words a)) w k)
+Inv-loop table set count w first k₀ result₀ k result = (64 * w ≤ k) × (k ≤ min count (64 * w + 64)) × (result ≡ upper (through table set) w k)
 
 abbrev μ-loop : tie.MeasureT-loop
-μ-loop words entries start count size a w first k₀ result₀ k result = k
-
-returns : tie.Need-returns Inv-loop μ-loop
-returns c =
-    let a = c .before .before .before .args in
-    upper-none _ (a .w) (64 * a .w) (λ e l h. leading-past _ _ _ _ _ e (omega arith)) ∙ upper-all _ (a .w) _ (omega arith)
+μ-loop table set count w first k₀ result₀ k result = k
 
 loop-holds : tie.Need-loop-holds Inv-loop μ-loop
 loop-holds c =
-    let a = c .before .before .before .before .args in
-    (omega arith, omega arith, upper-none _ (a .w) _ (λ e l h. leading-past (a .count) _ _ _ _ e (omega (arith, c .least .ensures))))
+    let s = c .before .before .before in
+    (omega arith, omega arith, upper-none _ (s .args .w) _ (λ e l h. s .pre .1 .past e (omega (arith, c .least .ensures)) (omega (arith, s .pre .1 .few))))
 
 mul-result : tie.Need-mul-result Inv-loop μ-loop
 mul-result c =
     let l = c .before .loop in
-    omega (arith, upper-room _ (c .before .before .before .before .before .before .args .w) (l .k) (l .result) (c .loop-test .taken) (l .inv .2))
+    omega (arith, upper-room _ (c .before .before .before .before .before .args .w) (l .k) (l .result) (c .loop-test .taken) (l .inv .2))
+
+member-requires : tie.Need-member-requires Inv-loop μ-loop
+member-requires c κs =
+    let s = c .before .before .before .before .before .before .before in
+    (s .pre .1 .nine, omega (arith, c .wide .ensures, s .pre .1 .small (c .before .before .before .loop .k - 1) (omega arith)))
 
 add-result : tie.Need-add-result Inv-loop μ-loop
 add-result c =
-    let l = c .before .before .before .loop in
+    let l = c .before .before .before .before .loop in
     let a = c .before .before .before .before .before .before .before .before .args in
-    let v = c .before .entry .result in
-    let d : c .test .result < 2 = rw (c .test .ensures) (digit-less (v <? a .size and holds (a .words .now) (a .a) v)) in
-    omega (arith, upper-room _ (a .w) (l .k) (l .result) (c .before .before .loop-test .taken) (l .inv .2))
+    let d : c .member .result < 2 = rw (c .member .ensures) (digit-less (holds (a .set .now) 0 (c .before .wide .result))) in
+    omega (arith, upper-room _ (a .w) (l .k) (l .result) (c .before .before .before .loop-test .taken) (l .inv .2))
 
 loop-again : tie.Need-loop-again Inv-loop μ-loop
+unfolding through
 loop-again c =
-    let l = c .before .before .before .loop in
+    let l = c .before .before .before .before .loop in
     let a = c .before .before .before .before .before .before .before .before .args in (
       omega arith,
       omega arith,
-      upper-next _ (a .w) (l .k) (l .result) _ (c .before .before .loop-test .taken) (omega arith) (l .inv .2)
-          (c .test .ensures ∙ ap digit (leading-at (a .count) (a .entries .now) (a .start) (a .size) _ (l .k - 1) _ (omega arith) (c .before .entry .ensures))),
+      upper-next _ (a .w) (l .k) (l .result) _ (c .before .before .before .loop-test .taken) (omega arith) (l .inv .2)
+          (c .member .ensures ∙ ap (λ (e : ℕ). digit (holds (a .set .now) 0 e)) (c .before .wide .ensures)),
     )
 
-returns-2 : tie.Need-returns-2 Inv-loop μ-loop
-returns-2 c =
+returns : tie.Need-returns Inv-loop μ-loop
+returns c =
     let l = c .before .loop in
     l .inv .2 ∙ upper-all _ _ (l .k) (omega arith)
 
@@ -63,7 +61,6 @@ preimage-word-spec =
     Inv-loop
     μ-loop
     (λ c. search needs)
-    returns
     (λ c. search needs)
     (λ c κs. search needs)
     loop-holds
@@ -72,8 +69,8 @@ preimage-word-spec =
     (λ c. search needs)
     (λ c. search needs)
     (λ c κs. search needs)
-    (λ c κs. search needs)
+    member-requires
     add-result
     (λ c. search needs)
     loop-again
-    returns-2)
+    returns)

@@ -1,12 +1,11 @@
 -- Piece by piece; the operands' pieces stand before those written. Assumes nothing.
 use Rattle.model.specs.Words.{holds}
 use Rattle.bitsets.specs.Elements.{combination, combined}
-use Prim.Native.Nat.{ℕ, _+_, _-_, _*_, _/_}
-use mathlib.Core.Path.{_≡_, ap, ap₂, _∙_}
+use Prim.Native.Nat.{_+_, _-_, _*_}
+use mathlib.Core.Path.{ap₂}
 use native.Mathlib.Omega.{arith}
-use Rattle.bitsets.specs.Elements.{Masks}
 use Rattle.subregions.specs.Pieces.{combinedPieces}
-use Rattle.subregions.proofs.Piece.{PiecesWritten, pieces-none, pieces-next, pieces-all, pieces-before, masked-is, product}
+use Rattle.subregions.proofs.Piece.{PiecesWritten, pieces-none, pieces-next, pieces-all, pieces-before, piece-stored, masked-is}
 use borrow.Author.Needs.{needs}
 use Rattle.subregions.proofs.pieces.fill_combined.Statement.{statement}
 use Rattle.subregions.proofs.pieces.fill_combined.Tie as tie
@@ -23,10 +22,10 @@ loop-holds c = pieces-none _ _ _ _
 loop-again : tie.Need-loop-again Inv-loop μ-loop
 unfolding combinedPieces combined
 loop-again c =
-    let l = c .before .before .before .before .before .before .loop in
-    let s = c .before .before .before .before .before .before .before .before .before in
-    let masks = c .before .before .before .before .before .before .before .region-masks in
-    pieces-next _ _ _ _ (l .words) _ (l .i) _ (l .inv) (c .before .before .before .before .before .loop-test .taken) (c .before .before .combine-pieces .ensures)
+    let l = c .before .before .before .before .before .before .before .before .before .loop in
+    let s = c .before .before .before .before .before .before .before .before .before .before .before .before in
+    let masks = c .before .before .before .before .before .before .before .before .before .before .region-masks in
+    pieces-next _ _ _ _ (l .words) _ (l .i) _ (l .inv) (c .before .before .before .before .before .before .before .before .loop-test .taken) (piece-stored _ _ _ _ _ (c .before .before .before .before .before .combined-piece .ensures) (c .before .before .write-piece .ensures))
     (λ e h. masked-is _ _ (masks .ensures) _ (combined (s .args .kind) (holds (s .args .words .now) (s .args .a + l .i * 8)) (holds (s .args .words .now) (s .args .b + l .i * 8))) e h
     (ap₂ (combination (s .args .kind))
     (pieces-before _ _ _ _ _ (l .i) (s .args .a + l .i * 8) e (l .inv) (omega (arith, s .pre .left)) h)
@@ -47,6 +46,8 @@ fill-combined-spec =
     (λ c. search needs)
     (λ c. search needs)
     (λ c. search needs)
+    (λ c. search needs)
+    (λ c κs. search needs)
     (λ c. search needs)
     (λ c. search needs)
     (λ c. search needs)

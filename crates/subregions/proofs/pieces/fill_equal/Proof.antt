@@ -2,12 +2,11 @@
 use Rattle.model.specs.Partitions.{equalStart}
 use Rattle.bitsets.specs.Elements.{between}
 use native.Mathlib.Nat.{div-le-self}
-use Prim.Native.Nat.{ℕ, _+_, _-_, _*_, _/_}
-use mathlib.Core.Path.{_≡_, ap, ap₂, _∙_}
+use Prim.Native.Nat.{ℕ, _+_, _-_}
+use mathlib.Core.Path.{ap₂}
 use native.Mathlib.Omega.{arith}
-use Rattle.bitsets.specs.Elements.{Masks}
 use Rattle.subregions.specs.Pieces.{equalPieces}
-use Rattle.subregions.proofs.Piece.{PiecesWritten, pieces-none, pieces-next, pieces-all, pieces-before, masked-is, product}
+use Rattle.subregions.proofs.Piece.{PiecesWritten, pieces-none, pieces-next, pieces-all, piece-stored, equal-inside}
 use borrow.Author.Needs.{needs}
 use Rattle.subregions.proofs.pieces.fill_equal.Statement.{statement}
 use Rattle.subregions.proofs.pieces.fill_equal.Tie as tie
@@ -31,12 +30,21 @@ equal-start-requires-2 c κs =
     let s = c .before .before .before .before in
     (omega (arith, s .pre .small, div-le-self (s .args .size) (s .args .pieces)), omega (arith, s .pre .few))
 
+-- a piece starts and ends inside the region
+range-piece-requires : tie.Need-range-piece-requires Inv-loop μ-loop
+range-piece-requires c κs =
+    let s = c .before .before .before .before .before in
+    let l = c .before .before .before .loop in (
+      omega (arith, c .before .equal-start .ensures, equal-inside (s .args .size) (s .args .pieces) (l .i) (omega arith), s .pre .small),
+      omega (arith, c .equal-start2 .ensures, equal-inside (s .args .size) (s .args .pieces) (l .i + 1) (omega arith), s .pre .small),
+    )
+
 loop-again : tie.Need-loop-again Inv-loop μ-loop
 unfolding equalPieces equalStart
 loop-again c =
-    let l = c .before .before .before .before .before .before .before .loop in
-    pieces-next _ _ _ _ (l .words) _ (l .i) _ (l .inv) (c .before .before .before .before .before .before .loop-test .taken) (c .before .before .fill-between .ensures)
-    (λ e h. ap₂ (λ (low high : ℕ). between low high e) (c .before .before .before .before .before .equal-start .ensures) (c .before .before .before .before .equal-start2 .ensures))
+    let l = c .before .before .before .before .before .before .before .before .before .loop in
+    pieces-next _ _ _ _ (l .words) _ (l .i) _ (l .inv) (c .before .before .before .before .before .before .before .before .loop-test .taken) (piece-stored _ _ _ _ _ (c .before .before .before .before .before .range-piece .ensures) (c .before .before .write-piece .ensures))
+    (λ e h. ap₂ (λ (low high : ℕ). between low high e) (c .before .before .before .before .before .before .before .equal-start .ensures) (c .before .before .before .before .before .before .equal-start2 .ensures))
 
 returns : tie.Need-returns Inv-loop μ-loop
 returns c = pieces-all _ _ _ _ _ _ (c .before .loop .inv) (c .loop-test .left)
@@ -53,6 +61,8 @@ fill-equal-spec =
     equal-start-requires
     (λ c. search needs)
     equal-start-requires-2
+    range-piece-requires
+    (λ c. search needs)
     (λ c. search needs)
     (λ c. search needs)
     (λ c κs. search needs)

@@ -1,35 +1,36 @@
 -- Word by word. Assumes nothing.
-use Rattle.bitsets.specs.Elements.{between}
 use Prim.Native.Nat.{_-_}
+use mathlib.Core.Path.{refl}
+use Rattle.bitsets.specs.Elements.{wordAt}
 use Rattle.subregions.proofs.Piece.{Written, written-none, written-next, written-all}
-use Rattle.model.specs.Words.{holds, word}
 use borrow.Author.Needs.{needs}
-use Rattle.subregions.proofs.operators.fill_between.Statement.{statement}
-use Rattle.subregions.proofs.operators.fill_between.Tie as tie
+use Rattle.subregions.proofs.operators.write_piece.Statement.{statement}
+use Rattle.subregions.proofs.operators.write_piece.Tie as tie
 
 abbrev Inv-loop : tie.InvT-loop
-Inv-loop words₀ low high at w₀ words w = Written words₀ at (word (between low high)) words w
+Inv-loop words₀ at piece w₀ words w = Written words₀ at (wordAt piece) words w
 
 abbrev μ-loop : tie.MeasureT-loop
-μ-loop words₀ low high at w₀ words w = 8 - w
+μ-loop words₀ at piece w₀ words w = 8 - w
 
 loop-holds : tie.Need-loop-holds Inv-loop μ-loop
 loop-holds c = written-none _ _ _
 
 loop-again : tie.Need-loop-again Inv-loop μ-loop
-loop-again c = written-next _ _ _ _ _ _ (c .before .before .loop .inv) (c .before .loop-test .taken) (c .word-between .ensures)
+loop-again c = written-next _ _ _ _ _ _ (c .before .before .loop .inv) (c .before .loop-test .taken) refl
 
 returns : tie.Need-returns Inv-loop μ-loop
 returns c = written-all _ _ _ _ _ (c .before .loop .inv) (c .loop-test .left)
 
-pub fill-between-spec : {M : Type 1} → statement M
-fill-between-spec =
+pub write-piece-spec : {M : Type 1} → statement M
+write-piece-spec =
     tie.close
     (tie.spec
     Inv-loop
     μ-loop
     loop-holds
-    (λ c κs. search needs)
+    (λ c. search needs)
+    (λ c. search needs)
     (λ c. search needs)
     (λ c. search needs)
     (λ c. search needs)
