@@ -1,4 +1,4 @@
-// Sets of elements in words: masks, and the bits of a word or of a piece's eight words set, tested and combined.
+// Sets of elements in words: masks, words combined, and the words that bytes make.
 use layout::bytes::byte_at;
 ghost use mathlib.Core.Path.{_≡_};
 ghost use Prim.Native.Nat.{_+_, _^_, _≤_, _<_};
@@ -30,7 +30,7 @@ pub fn word_between(low: usize, high: usize, w: usize) -> u64
     word_below(high, w) & !word_below(low, w)
 }
 
-// One word of a union (kind 2), an intersection (3) or a difference (4), its elements those of a mask.
+// One word of a union (kind 2), an intersection (3) or a difference (4).
 pub fn combine(kind: usize, x: u64, y: u64) -> u64
     ensures { λ r. ⌜ r ≡ number 64 (combinedBits kind x y) ⌝ }
 {

@@ -5,10 +5,9 @@ use mathlib.Core.List.{List}
 use mathlib.Core.Bool.{false}
 use native.Mathlib.Nat.{mul-le-mul}
 use native.Mathlib.Omega.{arith}
-use lib.ListN.{length, getD, drop}
-use lib.Seq.{getD-take, getD-drop}
+use lib.ListN.{length}
 use Rattle.model.specs.Tests.{_≤?_}
-use Rattle.model.specs.Bytes.{Bytes, u16, part, boundary, body}
+use Rattle.model.specs.Bytes.{Bytes, part}
 use Rattle.model.specs.Outcomes.{require, _then_, conclude}
 use Rattle.model.specs.Layout.{Plan, planOf}
 use Rattle.model.specs.Verdict.{planCheck, accepted, verdict}
@@ -35,17 +34,6 @@ use Rattle.subregions.specs.Fill.{AllHanded}
 use Rattle.evaluate.specs.Stages.{Sections, DataHeld, Held, lentCheck, wordsLeft, Left, SectionsReady, PlanDone}
 use Rattle.dataset.proofs.Framing.{bodies-cut}
 use Rattle.dataset.proofs.Reading.{data-given, reading-of}
-
--- the number of pieces is the first byte of the first body
-pub pieces-none : (d : Bytes) → u16 d 1 ≡ 0 → 0 ≡ pieces (dataOf d)
-unfolding body boundary
-pieces-none d h = let z : 1 + 2 + u16 d 1 - (1 + 2) ≡ 0 = omega arith in rw z
-
-pub pieces-first : (d : Bytes) → ¬ (u16 d 1 ≡ 0) → getD d 3 0 ≡ pieces (dataOf d)
-unfolding body boundary
-pieces-first d h =
-    let some : 0 < 1 + 2 + u16 d 1 - (1 + 2) = omega arith in
-    sym (getD-take _ (drop (1 + 2) d) 0 0 some ∙ getD-drop (1 + 2) d 0 0)
 
 few-records : {P : Plan} {maps supplied nodes : Bytes} → Sections P maps supplied nodes → FewRecords P
 few-records S = record { maps = S .limits .few-maps; supplied = S .limits .few-supplied }

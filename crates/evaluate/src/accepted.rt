@@ -2,29 +2,14 @@
 use dataset::data::DataFrame;
 use dataset::data::DataReading;
 use dataset::data::read_data;
-use layout::bytes::byte_at;
-use layout::bytes::u16_at;
+use layout::cells::piece_count;
 use model::Outcome;
 use model::Refusal;
 use plan::Reading;
 use subregions::fill::fill_all;
-ghost use mathlib.Core.Path.{_≡_};
-ghost use Prim.Native.Nat.{_<_};
 ghost use lib.ListN.{length};
-ghost use Rattle.model.specs.DataSets.{dataOf, pieces};
 ghost use Rattle.plan.specs.Reading.{AcceptedReading};
 ghost use Rattle.evaluate.specs.Stages.{DataReady, DataDone, LentReady, LentDone, SectionsReady, SectionsDone, PlanDone};
-
-// The number of pieces: the first byte of the first section, 0 where it has none.
-fn piece_count(data: &[u8]) -> usize
-    ensures { λ r. ⌜ (r ≡ pieces (dataOf (now («data» .entry)))) × (r < 256) ⌝ }
-{
-    if u16_at(data, 1) == 0 {
-        0
-    } else {
-        byte_at(data, 3)
-    }
-}
 
 // Fills the words over a data set that fits, its bodies handed on.
 fn fill_data(

@@ -1,11 +1,9 @@
 // The text of a report, line by line: the answer, and the members of pieces.
-mod cells;
 mod lines;
 mod members;
 mod text;
 
-pub use cells::assigned_node;
-pub use cells::piece_count;
+use layout::cells::piece_count;
 use lines::answer_line;
 use lines::piece_line;
 use model::Answer;

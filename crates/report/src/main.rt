@@ -2,6 +2,7 @@
 // and piece, the members.
 use evaluate::evaluate;
 use files::read_file;
+use layout::cells::assigned_node;
 ghost use mathlib.Core.Path.{_≡_};
 ghost use lib.ListN.{length};
 ghost use Rattle.report.specs.Buffers.{planBytes, dataBytes, outputWords};
@@ -10,7 +11,7 @@ ghost use Rattle.report.specs.Buffers.{planBytes, dataBytes, outputWords
 fn print_symbols(plan: &[u8], data: &[u8], words: &[u64], symbols: usize) -> bool {
     let mut symbol = 0;
     while symbol < symbols {
-        if !listing::print_node(symbol, listing::assigned_node(plan, symbol), data, words) {
+        if !listing::print_node(symbol, assigned_node(plan, symbol), data, words) {
             return false;
         }
         symbol += 1;

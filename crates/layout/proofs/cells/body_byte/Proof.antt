@@ -1,10 +1,10 @@
 -- Within the section's length the byte is one of the whole. Assumes nothing.
 use denote.Ref.{now}
 use mathlib.Core.Path.{sym, _∙_}
-use Rattle.listing.proofs.Bodies.{body-at, body-past}
+use Rattle.layout.proofs.Bodies.{body-at, body-past}
 use borrow.Author.Needs.{needs}
-use Rattle.listing.proofs.cells.body_byte.Statement.{statement}
-use Rattle.listing.proofs.cells.body_byte.Tie as tie
+use Rattle.layout.proofs.cells.body_byte.Statement.{statement}
+use Rattle.layout.proofs.cells.body_byte.Tie as tie
 
 boundary-requires : tie.Need-boundary-requires
 boundary-requires c κs = search needs

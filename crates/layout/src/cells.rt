@@ -1,6 +1,6 @@
 // Bytes of a plan's or a data set's sections, for every place.
-use layout::bytes::byte_at;
-use layout::bytes::u16_at;
+use crate::bytes::byte_at;
+use crate::bytes::u16_at;
 ghost use mathlib.Core.Path.{_≡_};
 ghost use Prim.Native.Nat.{_+_, _*_, _<_, _≤_};
 ghost use lib.ListN.{getD};

@@ -5,8 +5,8 @@ use native.Mathlib.Numerals.{add-one}
 use native.Mathlib.Omega.{arith}
 use Rattle.model.specs.Bytes.{boundary}
 use borrow.Author.Needs.{needs}
-use Rattle.listing.proofs.cells.boundary.Statement.{statement}
-use Rattle.listing.proofs.cells.boundary.Tie as tie
+use Rattle.layout.proofs.cells.boundary.Statement.{statement}
+use Rattle.layout.proofs.cells.boundary.Tie as tie
 
 abbrev Inv-loop : tie.InvT-loop
 Inv-loop s sections at₀ n₀ at n = (n ≤ sections) × (at ≡ boundary s n) × (at ≤ 1 + n * 65537)
