@@ -4,6 +4,7 @@ ghost use mathlib.Core.Path.{_≡_};
 ghost use Prim.Native.Nat.{_+_, _^_, _≤_, _<_};
 ghost use lib.Count.{trailingZeros};
 ghost use lib.ListN.{length};
+ghost use Rattle.model.specs.Bytes.{u16};
 ghost use Rattle.model.specs.Words.{number, word};
 ghost use Rattle.bitsets.specs.Elements.{upTo, between, combinedBits, twoBytes, bytesBits, exchangedBits, LowerPlaces, reversedBits, PieceOf};
 
@@ -57,6 +58,14 @@ pub fn region_masks(size: usize) -> [u64; 8]
         word_below(size, 6),
         word_below(size, 7),
     ]
+}
+
+// The number in two bytes, the higher one first.
+pub fn u16_inside(s: &[u8], at: usize) -> u16
+    requires { ⌜ at + 1 < length (now s) ⌝ }
+    ensures { λ r. ⌜ r ≡ u16 (now (s .entry)) at ⌝ }
+{
+    (s[at] as u16) * 256 + s[at + 1] as u16
 }
 
 // The byte as a word.

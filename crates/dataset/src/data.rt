@@ -11,9 +11,6 @@ use layout::outcomes::and_then;
 use model::Outcome;
 use model::Refusal;
 ghost use mathlib.Core.Path.{_≡_};
-ghost use Prim.Native.Nat.{_+_, _<_};
-ghost use lib.ListN.{length};
-ghost use Rattle.model.specs.Bytes.{u16};
 ghost use Rattle.model.specs.DataSets.{dataOf};
 ghost use Rattle.dataset.specs.DataParts.{frameOf, dataParts};
 ghost use Rattle.dataset.specs.Framing.{laidOut, sizesFit, lengthsRight};
@@ -34,14 +31,6 @@ pub struct DataReading {
     pub frame: DataFrame,
     pub entry_starts: [usize; 16],
     pub member_starts: [usize; 8],
-}
-
-// The number in two bytes, the higher one first.
-pub fn u16_inside(s: &[u8], at: usize) -> u16
-    requires { ⌜ at + 1 < length (now s) ⌝ }
-    ensures { λ r. ⌜ r ≡ u16 (now (s .entry)) at ⌝ }
-{
-    (s[at] as u16) * 256 + s[at + 1] as u16
 }
 
 // The ends of the sections that follow the edition byte, each behind its length.

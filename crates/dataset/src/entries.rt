@@ -1,5 +1,5 @@
 // The entries of the maps: where each map's begin, and whether each leads to an element.
-use crate::data::u16_inside;
+use bitsets::words::u16_inside;
 use layout::bytes::byte_at;
 use layout::bytes::u16_at;
 use model::Outcome;

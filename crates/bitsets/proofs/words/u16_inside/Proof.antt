@@ -3,8 +3,8 @@ use Prim.Native.Nat.{_+_}
 use mathlib.Core.Path.{refl}
 use native.Mathlib.Omega.{arith}
 use borrow.Author.Needs.{needs}
-use Rattle.dataset.proofs.data.u16_inside.Statement.{statement}
-use Rattle.dataset.proofs.data.u16_inside.Tie as tie
+use Rattle.bitsets.proofs.words.u16_inside.Statement.{statement}
+use Rattle.bitsets.proofs.words.u16_inside.Tie as tie
 
 shared-slice-read-result : tie.Need-shared-slice-read-result
 shared-slice-read-result c = search needs
