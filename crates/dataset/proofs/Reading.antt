@@ -1,23 +1,24 @@
 -- A data set read section by section is read as a whole, and what the reading of one that fits gives. Assumes nothing.
-use Prim.Native.Nat.{ℕ, _≤_}
+use Prim.Native.Nat.{ℕ, _+_, _*_, _≤_, _<_}
 use mathlib.Core.Path.{_≡_, refl, sym, ap, _∙_, fun-ext}
 use mathlib.Core.Bool.{Bool, true, false}
-use lib.ListN.{length, replicate}
+use lib.ListN.{getD, length, replicate}
 use Rattle.model.specs.Tests.{Is, _and_, pick}
 use Rattle.model.specs.Bytes.{Bytes, body}
 use Rattle.model.specs.Outcomes.{require, _then_}
-use Rattle.model.specs.Layout.{Plan}
-use Rattle.model.specs.DataSets.{DataSet, dataOf, pieces, size, pieceBytes, dataCheck}
-use Rattle.model.specs.PlainData.{Framed}
+use Rattle.model.specs.Layout.{Plan, mapCount, suppliedCount, source}
+use Rattle.model.specs.DataSets.{DataSet, dataOf, pieces, size, entryStart, pieceBytes, memberStart, dataCheck}
+use Rattle.model.specs.PlainData.{Framed, Fits}
 use Rattle.model.proofs.Tests.{both, pair, same, same!, most, every-at}
 use Rattle.model.proofs.DataAgrees.{data-fits}
-use Rattle.dataset.specs.DataParts.{frameOf, mapsPlan, entriesData, suppliedPlan, membersData}
+use Rattle.dataset.specs.DataParts.{frameOf, Cut, mapsPlan, entriesData, suppliedPlan, membersData}
 use Rattle.dataset.specs.Framing.{laidOut, lengthsRight}
 use Rattle.dataset.specs.Starts.{entryStarts, memberStarts, EntriesPlaced, MembersPlaced}
 use Rattle.dataset.specs.SectionChecks.{allEntries, allSupplied}
-use Rattle.dataset.specs.Reading.{sections, FewRecords, BodiesPlaced, bodiesCheck, bodiesReading, reading, DataGiven}
+use Rattle.dataset.specs.Reading.{sections, FewRecords, BodiesPlaced, bodiesCheck, bodiesReading, reading}
 use Rattle.dataset.specs.declared.entries.EntryStarts.{EntryStarts}
 use Rattle.dataset.specs.declared.supplied.MemberStarts.{MemberStarts}
+use Rattle.dataset.specs.declared.data.DataReading.{DataReading}
 use Rattle.model.specs.declared.Outcome.{Outcome}
 use Rattle.model.specs.declared.Refusal.{Refusal}
 use Rattle.model.specs.declared.Outcome.the-variants.{Pass, Refuse}
@@ -25,6 +26,18 @@ use Rattle.model.specs.declared.Refusal.the-variants.{InvalidData}
 use Rattle.dataset.proofs.Framing.{section-lengths-right, framed-is, laid-out-cut, sizes-most}
 use Rattle.dataset.proofs.Starts.{map-placed, partition-placed}
 use Rattle.dataset.proofs.Depends.{same-entry-start, same-entries, same-member-start, same-supplied, same-data-check}
+
+-- what the reading of a data set that fits gives to those who go on from it
+pub record DataGiven (P : Plan) (d : Bytes) (r : DataReading) : Type 0 where
+  pub fits : Fits P d
+  pub ends : r .frame ≡ frameOf d
+  pub cut : Cut (length d) (r .frame)
+  pub size-most : (region : ℕ) → size (dataOf d) region ≤ 512
+  pub entries-begin : (m : ℕ) → m < mapCount P → getD (r .«entry_starts») m 0 ≡ entryStart P (dataOf d) m
+  pub entries-inside : (m : ℕ) → m < mapCount P → entryStart P (dataOf d) m + 2 * size (dataOf d) (source P m) ≤ length (body d 2)
+  pub members-begin : (k : ℕ) → k < suppliedCount P → getD (r .«member_starts») k 0 ≡ memberStart P (dataOf d) k
+  pub members-inside :
+      (k : ℕ) → k < suppliedCount P → memberStart P (dataOf d) k + pieces (dataOf d) * pieceBytes P (dataOf d) k ≤ length (body d 3)
 
 module _ (P : Plan) (D : DataSet) where
   -- the starts, from the sections that they are read from

@@ -1,14 +1,13 @@
 -- What reading a data set against the sections of a plan gives.
 use mathlib.Core.List.{[]}
-use lib.ListN.{getD, length, replicate}
-use Prim.Native.Nat.{ℕ, _+_, _*_, _≤_, _<_}
+use lib.ListN.{length, replicate}
+use Prim.Native.Nat.{_≤_}
 use mathlib.Core.Path.{_≡_}
 use Rattle.model.specs.Tests.{pick}
-use Rattle.model.specs.Bytes.{Bytes, body}
+use Rattle.model.specs.Bytes.{Bytes}
 use Rattle.model.specs.Outcomes.{require, _then_}
-use Rattle.model.specs.Layout.{Plan, mapCount, suppliedCount, source}
-use Rattle.model.specs.DataSets.{DataSet, dataOf, pieces, size, entryStart, pieceBytes, memberStart, dataCheck}
-use Rattle.model.specs.PlainData.{Fits}
+use Rattle.model.specs.Layout.{Plan, mapCount, suppliedCount}
+use Rattle.model.specs.DataSets.{DataSet, dataOf, dataCheck}
 use Rattle.model.specs.declared.Outcome.{Outcome}
 use Rattle.model.specs.declared.Refusal.the-variants.{InvalidData}
 use Rattle.layout.specs.Parts.{parts}
@@ -67,15 +66,3 @@ module _ (P : Plan) where
         «entry_starts» = pick (laidOut d) (entryStarts P (dataOf d) .starts) (replicate 16 0);
         «member_starts» = pick (laidOut d) (memberStarts P (dataOf d) .starts) (replicate 8 0);
       }
-
--- what the reading of a data set that fits gives to those who go on from it
-pub record DataGiven (P : Plan) (d : Bytes) (r : DataReading) : Type 0 where
-  pub fits : Fits P d
-  pub ends : r .frame ≡ frameOf d
-  pub cut : Cut (length d) (r .frame)
-  pub size-most : (region : ℕ) → size (dataOf d) region ≤ 512
-  pub entries-begin : (m : ℕ) → m < mapCount P → getD (r .«entry_starts») m 0 ≡ entryStart P (dataOf d) m
-  pub entries-inside : (m : ℕ) → m < mapCount P → entryStart P (dataOf d) m + 2 * size (dataOf d) (source P m) ≤ length (body d 2)
-  pub members-begin : (k : ℕ) → k < suppliedCount P → getD (r .«member_starts») k 0 ≡ memberStart P (dataOf d) k
-  pub members-inside :
-      (k : ℕ) → k < suppliedCount P → memberStart P (dataOf d) k + pieces (dataOf d) * pieceBytes P (dataOf d) k ≤ length (body d 3)

@@ -29,11 +29,11 @@ use Rattle.plan.specs.Reading.{AcceptedReading}
 use Rattle.plan.proofs.Verdict.{cut, cut-plan}
 use Rattle.dataset.specs.declared.data.DataFrame.{DataFrame}
 use Rattle.dataset.specs.declared.data.DataReading.{DataReading}
-use Rattle.dataset.specs.Reading.{sections, FewRecords, reading, DataGiven}
+use Rattle.dataset.specs.Reading.{sections, FewRecords, reading}
 use Rattle.subregions.specs.Fill.{AllHanded}
 use Rattle.evaluate.specs.Stages.{Sections, DataHeld, Held, lentCheck, wordsLeft, Left, SectionsReady, PlanDone}
 use Rattle.dataset.proofs.Framing.{bodies-cut}
-use Rattle.dataset.proofs.Reading.{data-given, reading-of}
+use Rattle.dataset.proofs.Reading.{DataGiven, data-given, reading-of}
 
 few-records : {P : Plan} {maps supplied nodes : Bytes} → Sections P maps supplied nodes → FewRecords P
 few-records S = record { maps = S .limits .few-maps; supplied = S .limits .few-supplied }

@@ -2,6 +2,7 @@
 pub mod bytes;
 pub mod cells;
 pub mod frame;
+pub mod lookup;
 pub mod maps;
 pub mod outcomes;
 pub mod regions;

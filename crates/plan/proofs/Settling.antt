@@ -27,7 +27,14 @@ use Rattle.plan.specs.Needs.{needParts, stepParts, noNeed, firstClaim, s
 use Rattle.plan.specs.declared.needs.Claim.{Claim}
 use Rattle.plan.specs.declared.needs.Claim.the-variants.{Nothing, Complete, Disjoint, Subset, Unlisted}
 use Rattle.plan.specs.declared.needs.Need.{Need}
+use Rattle.plan.specs.declared.needs.Found.{Found}
+use Rattle.plan.specs.declared.needs.Found.the-variants.{At, Nowhere}
 use Rattle.plan.proofs.Stages.{then-assoc}
+
+-- whether a search over the steps found one
+unfoldable pub isFound : Found → Bool
+isFound (At t) = true
+isFound Nowhere = false
 
 -- need i, which asks for nothing, or which a step concludes, or which none concludes
 module _ (P : Plan) (needs : List Need) (i : ℕ) where

@@ -22,8 +22,6 @@ use Rattle.plan.specs.Loops.{PointersKnown}
 use Rattle.plan.specs.declared.needs.Claim.{Claim}
 use Rattle.plan.specs.declared.needs.Claim.the-variants.{Nothing, Complete, Disjoint, Subset, Unlisted}
 use Rattle.plan.specs.declared.needs.Need.{Need}
-use Rattle.plan.specs.declared.needs.Found.{Found}
-use Rattle.plan.specs.declared.needs.Found.the-variants.{At, Nowhere}
 
 -- the plan of the sections that the needs depend on; of the nodes alone; of the steps alone
 abbrev pub needParts : Bytes → Bytes → Bytes → Bytes → Plan
@@ -90,11 +88,6 @@ concludedBy P (Complete x) t = concludesComplete P t x
 concludedBy P (Disjoint x) t = concludesDisjoint P t x
 concludedBy P (Subset x y) t = concludesSubset P t x y
 concludedBy P Unlisted t = false
-
--- whether a search over the steps found one
-unfoldable pub isFound : Found → Bool
-isFound (At t) = true
-isFound Nowhere = false
 
 unfoldable pub isMet : Plan → Claim → Bool
 isMet P claim = non (isWanted claim) or any (stepCount P) (concludedBy P claim)

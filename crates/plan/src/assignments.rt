@@ -2,9 +2,9 @@
 use crate::kinds::access_of;
 use crate::kinds::is_access;
 use crate::kinds::opens_loop;
-use crate::lookup::number_at;
 use crate::statements::kind_at;
 use layout::bytes::byte_at;
+use layout::lookup::number_at;
 use layout::outcomes::and_then;
 use layout::outcomes::require;
 use model::Outcome;

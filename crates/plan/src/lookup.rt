@@ -1,23 +1,9 @@
-// Entries of tables, for every number.
+// Entries of tables by statement, of the statements before one.
 ghost use mathlib.Core.Path.{_≡_};
 ghost use mathlib.Core.Bool.{false};
 ghost use Prim.Native.Nat.{_<_};
 ghost use lib.ListN.{getD};
 ghost use Rattle.model.specs.Recursion.{below};
-
-// The number that a table has for i; 0 past its end.
-pub fn number_at(table: &[usize], i: usize) -> usize
-    ensures { λ r. ⌜ r ≡ getD (now (table .entry)) i 0 ⌝ }
-{
-    if i < table.len() { table[i] } else { 0 }
-}
-
-// What a table of truth values has for i; false past its end.
-pub fn flag_at(table: &[bool], i: usize) -> bool
-    ensures { λ r. ⌜ r ≡ getD (now (table .entry)) i false ⌝ }
-{
-    if i < table.len() { table[i] } else { false }
-}
 
 // The number that a table has for i, if that is below s.
 pub fn earlier_number(table: &[usize; 64], s: usize, i: usize, otherwise: usize) -> usize

@@ -1,6 +1,6 @@
 // Section 5: expressions.
-use crate::lookup::number_at;
 use layout::bytes::byte_at;
+use layout::lookup::number_at;
 use layout::outcomes::and_then;
 use layout::outcomes::require;
 use model::Outcome;

@@ -6,17 +6,10 @@ use crate::pieces::fill_preimage;
 use crate::pieces::fill_supplied;
 use layout::bytes::byte_at;
 use layout::bytes::u16_at;
-ghost use mathlib.Core.Path.{_≡_};
+use layout::lookup::number_at;
 ghost use Prim.Native.Nat.{_/_, _<_, _≤_};
-ghost use lib.ListN.{length, getD};
+ghost use lib.ListN.{length};
 ghost use Rattle.subregions.specs.Fill.{NodeReady, NodeDone, SizeOfNode, SizesOfNodes, AllReady, AllDone};
-
-// The number at a place of a table; 0 past the end.
-fn number_at(table: &[usize], at: usize) -> usize
-    ensures { λ r. ⌜ r ≡ getD (now (table .entry)) at 0 ⌝ }
-{
-    if at < table.len() { table[at] } else { 0 }
-}
 
 // Fills node j from its operands' words.
 pub fn fill_node(

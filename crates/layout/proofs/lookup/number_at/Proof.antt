@@ -1,10 +1,10 @@
--- Past the end both are 0. Assumes nothing.
+-- Past the end the table's default is meant. Assumes nothing.
 use denote.Ref.{now}
 use mathlib.Core.Path.{sym}
 use lib.ListN.{List·getD-eq-default}
 use borrow.Author.Needs.{needs}
-use Rattle.subregions.proofs.fill.number_at.Statement.{statement}
-use Rattle.subregions.proofs.fill.number_at.Tie as tie
+use Rattle.layout.proofs.lookup.number_at.Statement.{statement}
+use Rattle.layout.proofs.lookup.number_at.Tie as tie
 
 returns-2 : tie.Need-returns-2
 returns-2 c = sym (List·getD-eq-default (now (c .before .args .table)) 0 (c .if1 .left))

@@ -4,8 +4,8 @@ use mathlib.Core.Path.{sym}
 use mathlib.Core.Bool.{false}
 use lib.ListN.{List·getD-eq-default}
 use borrow.Author.Needs.{needs}
-use Rattle.plan.proofs.lookup.flag_at.Statement.{statement}
-use Rattle.plan.proofs.lookup.flag_at.Tie as tie
+use Rattle.layout.proofs.lookup.flag_at.Statement.{statement}
+use Rattle.layout.proofs.lookup.flag_at.Tie as tie
 
 returns-2 : tie.Need-returns-2
 returns-2 c = sym (List·getD-eq-default (now (c .before .args .table)) false (c .if1 .left))
