@@ -1,3 +1,5 @@
 pub mod Frames
 pub mod Bodies
 pub mod Scanning
+pub mod Searches
+pub mod Filling

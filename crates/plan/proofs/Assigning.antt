@@ -18,10 +18,10 @@ use Rattle.model.specs.declared.Outcome.the-variants.{Pass}
 use Rattle.model.specs.declared.Refusal.{Refusal}
 use Rattle.model.specs.declared.Refusal.the-variants.{InvalidRecord, RegionMismatch}
 use Rattle.model.proofs.Tests.{less, pick-true, pick-false}
-use Rattle.plan.specs.Tables.{statementParts}
+use Rattle.loops.specs.Tables.{statementParts}
 use Rattle.plan.specs.Symbols.{RegionsKnown}
-use Rattle.plan.proofs.Tracking.{operand-most}
-use Rattle.plan.proofs.Pairs.{kind-of-plan}
+use Rattle.loops.proofs.Tracking.{operand-most}
+use Rattle.loops.proofs.Pairs.{kind-of-plan}
 
 -- what follows a test matters only where it passes
 then-same : (t : Bool) (q : Refusal) {x y : Outcome} → (Is t → x ≡ y) → require t q then x ≡ require t q then y

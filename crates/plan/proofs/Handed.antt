@@ -16,8 +16,8 @@ use Rattle.model.specs.Verdict.{regionCheck, mapCheck, suppliedCheck}
 use Rattle.layout.specs.Parts.{parts}
 use Rattle.model.specs.Outcomes.{_then_, scan}
 use Rattle.plan.specs.Needs.{needParts, NeedsKnown}
-use Rattle.plan.specs.Tables.{StatementTables, statementParts}
-use Rattle.plan.specs.Steps.{stepsCheck}
+use Rattle.loops.specs.Tables.{StatementTables, statementParts}
+use Rattle.expressions.specs.Steps.{stepsCheck}
 use Rattle.layout.specs.Declarations.{regionsCheck, mapsCheck, partitionsCheck}
 use Rattle.plan.specs.Sections.{needsCheck, StatementsKnown, NodesKnown, statementsCheck, loopsCheck, nodesCheck, fromAssignments}
 

@@ -18,13 +18,13 @@ use Rattle.model.specs.Needs.{hasSymbol, symbol, boundBy, bound, operandBound}
 use Rattle.model.specs.declared.StatementKind.{StatementKind}
 use Rattle.model.specs.declared.StatementKind.the-variants.{For, Load, Call, Copy, Read, Write, Reduce, Unknown}
 use Rattle.model.proofs.Recursion.{course-law}
-use Rattle.plan.specs.Tables.{Table, statementParts}
-use Rattle.plan.specs.Loops.{PointersKnown}
+use Rattle.loops.specs.Tables.{Table, statementParts}
+use Rattle.loops.specs.Loops.{PointersKnown}
 use Rattle.plan.specs.Needs.{needParts, boundAt, need, noNeed, firstClaim, secondClaim, firstNeed, secondNeed, Listed, NeedsKnown}
 use Rattle.plan.specs.declared.needs.Claim.{Claim}
 use Rattle.plan.specs.declared.needs.Need.{Need}
-use Rattle.plan.proofs.Stored.{stored, earlier-holds}
-use Rattle.plan.proofs.Tracking.{operand-most}
+use Rattle.loops.proofs.Stored.{stored, earlier-holds}
+use Rattle.loops.proofs.Tracking.{operand-most}
 use Rattle.plan.proofs.Numbering.{symbol-first, symbol-next, symbol-most}
 
 -- the bound of the variable that statement s defines, from that of the variable that it follows

@@ -10,8 +10,8 @@ use Rattle.model.specs.Bytes.{Bytes}
 use Rattle.model.specs.Layout.{Plan, statementCount}
 use Rattle.model.specs.Statements.{kind, opens, accesses}
 use Rattle.model.specs.Needs.{hasSymbol, symbol, symbolCount}
-use Rattle.plan.specs.Tables.{statementParts}
-use Rattle.plan.proofs.Pairs.{count-of-plan}
+use Rattle.loops.specs.Tables.{statementParts}
+use Rattle.loops.proofs.Pairs.{count-of-plan}
 
 module _ (P : Plan) {statements : Bytes} (section : P .statements ≡ statements) (s : ℕ) where
   pub symbol-of-plan : hasSymbol (statementParts statements) s ≡ hasSymbol P s

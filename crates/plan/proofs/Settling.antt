@@ -22,7 +22,7 @@ use Rattle.model.specs.declared.Outcome.the-variants.{Pass, Refuse}
 use Rattle.model.specs.declared.Refusal.the-variants.{UnmetNeed}
 use Rattle.model.proofs.Tests.{falsum, one}
 use Rattle.model.proofs.Outcomes.{required}
-use Rattle.plan.specs.Tables.{statementParts}
+use Rattle.loops.specs.Tables.{statementParts}
 use Rattle.plan.specs.Needs.{needParts, stepParts, noNeed, firstClaim, secondClaim, firstNeed, secondNeed, Listed, isWanted, concludedBy, isMet, settled}
 use Rattle.plan.specs.declared.needs.Claim.{Claim}
 use Rattle.plan.specs.declared.needs.Claim.the-variants.{Nothing, Complete, Disjoint, Subset, Unlisted}

@@ -1,9 +1,4 @@
 pub mod Reading
 pub mod Sections
-pub mod Tables
-pub mod Loops
 pub mod Symbols
-pub mod Steps
-pub mod Nodes
-pub mod Rows
 pub mod Needs

@@ -17,8 +17,8 @@ use Rattle.model.specs.declared.StatementKind.{StatementKind}
 use Rattle.model.specs.declared.Outcome.{Outcome}
 use Rattle.model.specs.declared.Refusal.the-variants.{UnmetNeed}
 use Rattle.layout.specs.Parts.{parts}
-use Rattle.plan.specs.Tables.{statementParts}
-use Rattle.plan.specs.Loops.{PointersKnown}
+use Rattle.loops.specs.Tables.{statementParts}
+use Rattle.loops.specs.Loops.{PointersKnown}
 use Rattle.plan.specs.declared.needs.Claim.{Claim}
 use Rattle.plan.specs.declared.needs.Claim.the-variants.{Nothing, Complete, Disjoint, Subset, Unlisted}
 use Rattle.plan.specs.declared.needs.Need.{Need}

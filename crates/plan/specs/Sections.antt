@@ -15,8 +15,8 @@ use Rattle.model.specs.AcceptedPlans.{Limits}
 use Rattle.model.specs.declared.Outcome.{Outcome}
 use Rattle.model.specs.declared.Outcome.the-variants.{Pass}
 use Rattle.layout.specs.Declarations.{regionsCheck, mapsCheck, partitionsCheck}
-use Rattle.plan.specs.Tables.{StatementTables}
-use Rattle.plan.specs.Steps.{stepsCheck}
+use Rattle.loops.specs.Tables.{StatementTables}
+use Rattle.expressions.specs.Steps.{stepsCheck}
 use Rattle.plan.specs.declared.records.CheckedStatements.{CheckedStatements}
 
 module _ (P : Plan) where

@@ -7,8 +7,8 @@ use Rattle.model.specs.Bytes.{Bytes}
 use Rattle.model.specs.Layout.{Plan, statementCount, nodeCount}
 use Rattle.model.specs.Statements.{operandDefinition, variableRegion}
 use Rattle.model.specs.Nodes.{nodeRegion}
-use Rattle.plan.specs.Tables.{Table}
-use Rattle.plan.specs.Loops.{Within}
+use Rattle.loops.specs.Tables.{Table}
+use Rattle.loops.specs.Loops.{Within}
 
 -- statement s is one of at most 64, with at most one symbol for each before it
 pub record Numbered (statements : Bytes) (symbol s : ℕ) : Type 0 where

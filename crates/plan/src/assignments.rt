@@ -1,12 +1,12 @@
 // Symbols, and section 6: a node for each, of its region.
-use crate::kinds::access_of;
-use crate::kinds::is_access;
-use crate::kinds::opens_loop;
-use crate::statements::kind_at;
 use layout::bytes::byte_at;
 use layout::lookup::number_at;
 use layout::outcomes::and_then;
 use layout::outcomes::require;
+use loops::kinds::access_of;
+use loops::kinds::is_access;
+use loops::kinds::opens_loop;
+use loops::statements::kind_at;
 use model::Outcome;
 use model::Refusal;
 ghost use mathlib.Core.Path.{_≡_};
@@ -17,8 +17,8 @@ ghost use Rattle.model.specs.Outcomes.{_then_, scan};
 ghost use Rattle.model.specs.Layout.{Plan, statementCount};
 ghost use Rattle.model.specs.Needs as Needs;
 ghost use Rattle.model.specs.Needs.{hasSymbol, symbolCount, symbolRegion, assignmentCountCheck, assignmentCheck};
-ghost use Rattle.plan.specs.Tables.{statementParts};
-ghost use Rattle.plan.specs.Loops.{Within};
+ghost use Rattle.loops.specs.Tables.{statementParts};
+ghost use Rattle.loops.specs.Loops.{Within};
 ghost use Rattle.plan.specs.Symbols.{Numbered, RegionsKnown, AssignmentsKnown};
 
 // Whether statement s has a symbol: a FOR, or an access.

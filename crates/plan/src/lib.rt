@@ -12,16 +12,8 @@ ghost use Rattle.model.specs.Promises.{CheckPromise};
 ghost use Rattle.plan.specs.Reading.{ReadPromise};
 
 mod assignments;
-mod kinds;
-mod lemmas;
-mod licences;
-mod lookup;
 mod needs;
-mod nodes;
-mod parallel;
 mod records;
-mod statements;
-mod steps;
 
 // What reading a plan gives: the answer, and where its sections end if the layout passes, all 0 if it does not.
 pub struct Reading {

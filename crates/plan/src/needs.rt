@@ -1,18 +1,18 @@
 // Needs: what the loops ask the steps to conclude, and the search for the steps that do.
 use crate::assignments::next_symbol;
-use crate::kinds::access_of;
-use crate::kinds::is_access;
-use crate::kinds::opens_loop;
-use crate::lookup::earlier_number;
-use crate::nodes::IMAGE;
-use crate::nodes::node_at;
-use crate::parallel::reduces_through_pointer;
-use crate::statements::kind_at;
-use crate::steps::concludes_complete;
-use crate::steps::concludes_disjoint;
-use crate::steps::concludes_subset;
+use expressions::nodes::IMAGE;
+use expressions::nodes::node_at;
+use expressions::steps::concludes_complete;
+use expressions::steps::concludes_disjoint;
+use expressions::steps::concludes_subset;
 use layout::bytes::byte_at;
 use layout::lookup::number_at;
+use loops::kinds::access_of;
+use loops::kinds::is_access;
+use loops::kinds::opens_loop;
+use loops::lookup::earlier_number;
+use loops::parallel::reduces_through_pointer;
+use loops::statements::kind_at;
 use model::Outcome;
 use model::Refusal;
 use model::StatementKind;
@@ -25,8 +25,8 @@ ghost use Rattle.model.specs.Layout.{Plan, statementCount};
 ghost use Rattle.model.specs.Statements.{opens};
 ghost use Rattle.model.specs.Parallel.{reducesThroughPointer};
 ghost use Rattle.model.specs.Needs.{imageNode, needCheck};
-ghost use Rattle.plan.specs.Tables.{statementParts};
-ghost use Rattle.plan.specs.Loops.{PointersKnown, Within};
+ghost use Rattle.loops.specs.Tables.{statementParts};
+ghost use Rattle.loops.specs.Loops.{PointersKnown, Within};
 ghost use Rattle.plan.specs.Needs.{needParts, nodeParts, stepParts, isImage, boundAt, SymbolOf, firstClaim, secondClaim, Listed, isWanted, concludedBy, settled, NeedsKnown};
 
 // What a need asks a step to conclude.

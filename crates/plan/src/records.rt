@@ -1,13 +1,13 @@
 // The records of a plan's sections, in order: the first refusal met is given.
 use crate::assignments::check_assignments;
 use crate::needs::check_needs;
-use crate::nodes::check_nodes;
-use crate::parallel::check_loops;
-use crate::statements::check_statements;
-use crate::steps::check_steps;
+use expressions::nodes::check_nodes;
+use expressions::steps::check_steps;
 use layout::maps::check_maps;
 use layout::regions::check_regions;
 use layout::supplied::check_supplied;
+use loops::parallel::check_loops;
+use loops::statements::check_statements;
 use model::Outcome;
 ghost use mathlib.Core.Path.{_≡_};
 ghost use mathlib.Core.List.{[]};
@@ -16,7 +16,7 @@ ghost use lib.ListN.{length};
 ghost use Rattle.model.specs.Verdict.{recordsCheck};
 ghost use Rattle.model.specs.AcceptedPlans.{Limits};
 ghost use Rattle.layout.specs.Parts.{parts};
-ghost use Rattle.plan.specs.Tables.{loopParts};
+ghost use Rattle.loops.specs.Tables.{loopParts};
 ghost use Rattle.plan.specs.Needs.{NeedsKnown};
 ghost use Rattle.plan.specs.Sections.{StatementsChecked, StatementsKnown, NodesKnown, fromStatements, fromNodes, fromAssignments, fromSteps};
 

@@ -8,7 +8,7 @@ use Rattle.model.specs.Needs as Needs
 use Rattle.model.specs.Needs.{assignmentCheck}
 use Rattle.model.proofs.Outcomes.{scan-start, scan-next, scan-stop, scan-end}
 use Rattle.plan.specs.Symbols.{AssignmentsKnown}
-use Rattle.plan.proofs.Pairs.{count-of-plan}
+use Rattle.loops.proofs.Pairs.{count-of-plan}
 use Rattle.plan.proofs.Numbering.{symbol-next, symbol-most}
 use borrow.Author.Needs.{needs}
 use Rattle.plan.proofs.assignments.check_assigned_nodes.Statement.{statement}

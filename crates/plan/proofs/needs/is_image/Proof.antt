@@ -2,7 +2,7 @@
 use Rattle.model.specs.Tests.{_and_, _==_}
 use Rattle.plan.specs.Needs.{isImage}
 use borrow.Author.Needs.{needs}
-use Rattle.plan.proofs.RecordValues.{node-is}
+use Rattle.expressions.proofs.RecordValues.{node-is}
 use Rattle.plan.proofs.needs.is_image.Statement.{statement}
 use Rattle.plan.proofs.needs.is_image.Tie as tie
 

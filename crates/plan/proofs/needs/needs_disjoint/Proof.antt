@@ -4,7 +4,7 @@ use mathlib.Core.Path.{_≡_, _∙_}
 use Rattle.model.specs.Tests.{_and_}
 use Rattle.model.specs.Layout.{Plan}
 use Rattle.model.specs.Statements.{opens}
-use Rattle.plan.proofs.Pairs.{kind-of-plan}
+use Rattle.loops.proofs.Pairs.{kind-of-plan}
 use borrow.Author.Needs.{needs}
 use Rattle.plan.proofs.needs.needs_disjoint.Statement.{statement}
 use Rattle.plan.proofs.needs.needs_disjoint.Tie as tie

@@ -13,7 +13,7 @@ use Rattle.model.specs.Layout.{stepCount}
 use Rattle.model.proofs.Tests.{among}
 use Rattle.model.proofs.Outcomes.{scan-start, scan-next, scan-stop, scan-end}
 use Rattle.plan.specs.Needs.{stepParts, noNeed, concludedBy, settled}
-use Rattle.plan.proofs.Searches.{none-before, none-next, none-at-end}
+use Rattle.layout.proofs.Searches.{none-before, none-next, none-at-end}
 use Rattle.plan.proofs.Settling.{isFound, not-wanted, concluded, unmet}
 use Rattle.plan.proofs.needs.settle.Statement.{statement}
 use Rattle.plan.proofs.needs.settle.Tie as tie

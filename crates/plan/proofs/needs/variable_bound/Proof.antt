@@ -2,7 +2,7 @@
 use mathlib.Core.Path.{refl}
 use Rattle.model.specs.Statements.{kind, opens, accesses}
 use Rattle.model.specs.Needs.{hasSymbol, symbol, imageNode, boundBy}
-use Rattle.plan.proofs.ByKind.{bound-by}
+use Rattle.plan.proofs.Bounds.{bound-by}
 use borrow.Author.Needs.{needs}
 use Rattle.plan.proofs.needs.variable_bound.Statement.{statement}
 use Rattle.plan.proofs.needs.variable_bound.Tie as tie

@@ -8,7 +8,7 @@ use Rattle.plan.proofs.records.check_from_steps.Tie as tie
 use Rattle.plan.proofs.records.check_from_steps.Reads as reads
 use Rattle.plan.proofs.records.check_from_steps.Lts as lts
 use Rattle.plan.proofs.needs.check_needs.Reads as check-needs-reads
-use Rattle.plan.proofs.steps.check_steps.Reads as check-steps-reads
+use Rattle.expressions.proofs.steps.check_steps.Reads as check-steps-reads
 
 check-steps-requires : tie.Need-check-steps-requires
 check-steps-requires c κs = search needs

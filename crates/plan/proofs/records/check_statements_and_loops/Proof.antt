@@ -3,7 +3,7 @@ use denote.Ref.{now}
 use mathlib.Core.Path.{refl, sym, _∙_}
 use Rattle.model.specs.Layout.{statementCount}
 use Rattle.model.proofs.Outcomes.{never}
-use Rattle.plan.specs.Tables.{loopParts, StatementTables}
+use Rattle.loops.specs.Tables.{loopParts, StatementTables}
 use Rattle.plan.proofs.Stages.{stage-passed, stage-refused}
 use borrow.Author.Needs.{needs}
 use Rattle.plan.proofs.records.check_statements_and_loops.Statement.{statement}

@@ -1,0 +1,32 @@
+-- The nodes and steps, as they were read, are the rows' own. Assumes nothing.
+use Rattle.model.specs.Tests.{any, _and_, _or_, _==_}
+use Rattle.model.specs.Lemmas.{licence, licences, concludesSubset, concludesComplete}
+use borrow.Author.Needs.{needs}
+use Rattle.expressions.proofs.RecordValues.{node-is}
+use Rattle.expressions.proofs.licences.complete_licensed.Statement.{statement}
+use Rattle.expressions.proofs.licences.complete_licensed.Tie as tie
+
+returns : tie.Need-returns
+unfolding licence licences concludesSubset concludesComplete any _and_ _or_ _==_
+returns c =
+    let m = c .before .before .before in
+    rw (
+      m .concludes-complete2 .ensures,
+      m .before .concludes-subset .ensures,
+      m .before .before .concludes-complete .ensures,
+      m .before .before .before .byte-at .ensures .0,
+      node-is (m .before .before .before .before .before .node-at .ensures),
+    )
+
+pub complete-licensed-spec : {M : Type 1} → statement M
+complete-licensed-spec =
+    tie.close
+    (tie.spec
+    (λ c κs. search needs)
+    (λ c. search needs)
+    (λ c. search needs)
+    (λ c κs. search needs)
+    (λ c κs. search needs)
+    (λ c κs. search needs)
+    (λ c κs. search needs)
+    returns)

@@ -1,0 +1,118 @@
+// Whether a step is by its lemma.
+use crate::nodes::DIFFERENCE;
+use crate::nodes::EQUAL;
+use crate::nodes::IMAGE;
+use crate::nodes::INTERSECTION;
+use crate::nodes::PREIMAGE;
+use crate::nodes::SUPPLIED;
+use crate::nodes::UNION;
+use crate::nodes::node_at;
+use crate::steps::Step;
+use crate::steps::concludes_complete;
+use crate::steps::concludes_disjoint;
+use crate::steps::concludes_subset;
+use crate::steps::step_at;
+use layout::bytes::byte_at;
+ghost use mathlib.Core.Path.{_≡_};
+ghost use mathlib.Core.List.{[]};
+ghost use Rattle.model.specs.Lemmas.{licence};
+ghost use Rattle.layout.specs.Parts.{parts};
+ghost use Rattle.expressions.specs.Steps.{StepBytes, KnownStep, licensedBy};
+
+// Lemmas 1 to 5: x is equal, or supplied and so declared; y is x.
+fn leaf_licensed(supplied: &[u8], nodes: &[u8], step: Step) -> bool
+    requires { ⌜ StepBytes step ⌝ }
+    ensures { λ r. ⌜ r ≡ licensedBy (parts [] [] (now (supplied .entry)) [] (now (nodes .entry)) [] []) 1 5 step ⌝ }
+{
+    let x = node_at(nodes, step.x);
+    let flags = byte_at(supplied, x.a * 2 + 1);
+    ((step.lemma == 1) & (x.kind == EQUAL))
+        | ((step.lemma == 2) & (x.kind == EQUAL))
+        | ((step.lemma == 3) & ((x.kind == SUPPLIED) & ((flags == 1) | (flags == 3))))
+        | ((step.lemma == 4) & ((x.kind == SUPPLIED) & ((flags == 2) | (flags == 3))))
+        | ((step.lemma == 5) & (step.y == step.x))
+}
+
+// Lemmas 6 to 11: SUB by way of a third node, and by union, intersection and difference.
+fn operator_licensed(nodes: &[u8], steps: &[u8], step: Step) -> bool
+    requires { ⌜ StepBytes step ⌝ }
+    ensures { λ r. ⌜ r ≡ licensedBy (parts [] [] [] [] (now (nodes .entry)) [] (now (steps .entry))) 6 6 step ⌝ }
+{
+    let x = node_at(nodes, step.x);
+    let y = node_at(nodes, step.y);
+    let middle = step_at(steps, step.p).y;
+    let x_in_middle = concludes_subset(steps, step.p, step.x, middle);
+    let middle_in_y = concludes_subset(steps, step.q, middle, step.y);
+    let left_in_y = concludes_subset(steps, step.p, x.a, step.y);
+    let right_in_y = concludes_subset(steps, step.q, x.b, step.y);
+    let x_in_left = concludes_subset(steps, step.p, step.x, y.a);
+    let x_in_right = concludes_subset(steps, step.q, step.x, y.b);
+    ((step.lemma == 6) & (x_in_middle & middle_in_y))
+        | ((step.lemma == 7) & ((y.kind == UNION) & ((y.a == step.x) | (y.b == step.x))))
+        | ((step.lemma == 8) & ((x.kind == UNION) & (left_in_y & right_in_y)))
+        | ((step.lemma == 9) & ((x.kind == INTERSECTION) & ((x.a == step.y) | (x.b == step.y))))
+        | ((step.lemma == 10) & ((y.kind == INTERSECTION) & (x_in_left & x_in_right)))
+        | ((step.lemma == 11) & ((x.kind == DIFFERENCE) & (x.a == step.y)))
+}
+
+// Lemmas 12 to 14: SUB by image and preimage.
+fn map_licensed(nodes: &[u8], steps: &[u8], step: Step) -> bool
+    requires { ⌜ StepBytes step ⌝ }
+    ensures { λ r. ⌜ r ≡ licensedBy (parts [] [] [] [] (now (nodes .entry)) [] (now (steps .entry))) 12 3 step ⌝ }
+{
+    let x = node_at(nodes, step.x);
+    let y = node_at(nodes, step.y);
+    let middle = step_at(steps, step.p).y;
+    let z = node_at(nodes, middle);
+    let operands = (x.b == y.b) & concludes_subset(steps, step.p, x.a, y.a);
+    let operand_in_middle = concludes_subset(steps, step.p, x.a, middle);
+    let preimage_of_y = (z.kind == PREIMAGE) & ((z.a == step.y) & (z.b == x.b));
+    ((step.lemma == 12) & ((x.kind == IMAGE) & ((y.kind == IMAGE) & operands)))
+        | ((step.lemma == 13) & ((x.kind == PREIMAGE) & ((y.kind == PREIMAGE) & operands)))
+        | ((step.lemma == 14) & ((x.kind == IMAGE) & (operand_in_middle & preimage_of_y)))
+}
+
+// Lemmas 15 to 18: DISJ from a larger partition, and by intersection, difference and preimage.
+fn disjoint_licensed(nodes: &[u8], steps: &[u8], step: Step) -> bool
+    requires { ⌜ StepBytes step ⌝ }
+    ensures { λ r. ⌜ r ≡ licensedBy (parts [] [] [] [] (now (nodes .entry)) [] (now (steps .entry))) 15 4 step ⌝ }
+{
+    let x = node_at(nodes, step.x);
+    let y_disjoint = concludes_disjoint(steps, step.p, step.y);
+    let x_in_y = concludes_subset(steps, step.q, step.x, step.y);
+    let left_disjoint = concludes_disjoint(steps, step.p, x.a);
+    let right_disjoint = concludes_disjoint(steps, step.p, x.b);
+    ((step.lemma == 15) & (y_disjoint & x_in_y))
+        | ((step.lemma == 16) & ((x.kind == INTERSECTION) & (left_disjoint | right_disjoint)))
+        | ((step.lemma == 17) & ((x.kind == DIFFERENCE) & left_disjoint))
+        | ((step.lemma == 18) & ((x.kind == PREIMAGE) & left_disjoint))
+}
+
+// Lemmas 19 and 20: COMP from a smaller partition, and by preimage under a total map.
+fn complete_licensed(maps: &[u8], nodes: &[u8], steps: &[u8], step: Step) -> bool
+    requires { ⌜ StepBytes step ⌝ }
+    ensures { λ r. ⌜ r ≡ licensedBy (parts [] (now (maps .entry)) [] [] (now (nodes .entry)) [] (now (steps .entry))) 19 2 step ⌝ }
+{
+    let x = node_at(nodes, step.x);
+    let totality = byte_at(maps, x.b * 3 + 2);
+    let y_complete = concludes_complete(steps, step.p, step.y);
+    let y_in_x = concludes_subset(steps, step.q, step.y, step.x);
+    let operand_complete = concludes_complete(steps, step.p, x.a);
+    ((step.lemma == 19) & (y_complete & y_in_x))
+        | ((step.lemma == 20) & ((x.kind == PREIMAGE) & ((totality == 1) & operand_complete)))
+}
+
+// Whether a step of a known lemma is by that lemma.
+pub fn is_licensed(maps: &[u8], supplied: &[u8], nodes: &[u8], steps: &[u8], step: Step) -> bool
+    requires { ⌜ KnownStep step ⌝ }
+    ensures { λ r. ⌜ r ≡ licence (parts [] (now (maps .entry)) (now (supplied .entry)) [] (now (nodes .entry)) [] (now (steps .entry))) (step .lemma) (step .x) (step .y) (step .p) (step .q) ⌝ }
+{
+    let lemma = step.lemma;
+    match lemma {
+        1..=5 => leaf_licensed(supplied, nodes, step),
+        6..=11 => operator_licensed(nodes, steps, step),
+        12..=14 => map_licensed(nodes, steps, step),
+        15..=18 => disjoint_licensed(nodes, steps, step),
+        _ => complete_licensed(maps, nodes, steps, step),
+    }
+}

@@ -1,0 +1,6 @@
+pub mod ByKind
+pub mod Depends
+pub mod Stored
+pub mod Tracking
+pub mod Pairs
+pub mod Harmless

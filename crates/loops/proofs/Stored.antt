@@ -1,0 +1,35 @@
+-- Tables by number: what is read of one below its bound, and what is stored next. Assumes nothing.
+use Prim.Native.Nat.{ℕ, zero, suc, _+_, _≤_, _<_}
+use mathlib.Core.Path.{_≡_, refl, sym, _∙_}
+use mathlib.Core.List.{List}
+use mathlib.Core.Bool.{Bool, true, false}
+use native.Mathlib.Omega.{arith}
+use lib.ListN.{getD, replicate, set, length-set}
+use lib.Seq.{getD-set-same, getD-set-other}
+use lib.Dec.{eqb, ltb}
+use borrow.Author.Tests.{ltb-true, ltb-false, le-ltb, eqb-true, eqb-false}
+use Rattle.model.specs.Tests.{_<?_}
+use Rattle.model.specs.Recursion.{below}
+use Rattle.model.proofs.Tests.{pick-false}
+use Rattle.model.proofs.Recursion.{below-at}
+use Rattle.layout.proofs.Filling.{below-past}
+use Rattle.loops.specs.Tables.{Table}
+
+module _ {A : Type 0} {default : A} {s : ℕ} {table : List A} {value : ℕ → A} where
+  -- a table that holds the values below s, after the value at s is stored there
+  pub stored : {v : A} → s < 64 → v ≡ value s → Table default s table value → Table default (s + 1) (set table s v) value
+  stored {v} few e t =
+      record { room = length-set table s v ∙ t .room; holds = λ k lt. at k lt (eqb k s) refl }
+    where
+      at : (k : ℕ) → k < s + 1 → (b : Bool) → eqb k s ≡ b → getD (set table s v) k default ≡ value k
+      at k lt true q = let room = t .room in rw (eqb-true k s q) (getD-set-same table s v default (omega arith) ∙ e)
+      at k lt false q = let ne = eqb-false k s q in getD-set-other table s k v default ne ∙ t .holds k (omega arith)
+
+  -- the earlier values, read from a table that holds them
+  pub earlier-holds : (otherwise : A) → Table default s table value → (k : ℕ)
+      → below otherwise s (λ d. getD table d default) k ≡ below otherwise s value k
+  earlier-holds otherwise t k = at (ltb k s) refl
+    where
+      at : (b : Bool) → ltb k s ≡ b → below otherwise s (λ d. getD table d default) k ≡ below otherwise s value k
+      at true q = let lt = ltb-true k s q in below-at otherwise s _ k lt ∙ (t .holds k lt ∙ sym (below-at otherwise s value k lt))
+      at false q = let le = ltb-false k s q in below-past otherwise s _ k le ∙ sym (below-past otherwise s value k le)

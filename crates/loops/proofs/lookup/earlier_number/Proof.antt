@@ -1,0 +1,16 @@
+-- An earlier entry is in the table. Assumes nothing.
+use mathlib.Core.Path.{sym}
+use Rattle.model.proofs.Recursion.{below-at}
+use Rattle.layout.proofs.Filling.{below-past}
+use borrow.Author.Needs.{needs}
+use Rattle.loops.proofs.lookup.earlier_number.Statement.{statement}
+use Rattle.loops.proofs.lookup.earlier_number.Tie as tie
+
+returns : tie.Need-returns
+returns c = sym (below-at _ _ _ _ (c .before .if1 .taken))
+
+returns-2 : tie.Need-returns-2
+returns-2 c = sym (below-past _ _ _ _ (c .if1 .left))
+
+pub earlier-number-spec : {M : Type 1} → statement M
+earlier-number-spec = tie.close (tie.spec (λ c. search needs) (λ c. search needs) returns returns-2)

@@ -1,0 +1,24 @@
+-- Each entry is the definition's value. Assumes nothing.
+use Rattle.loops.proofs.Pairs.{access-is}
+use borrow.Author.Needs.{needs}
+use Rattle.loops.proofs.parallel.loop_access.Statement.{statement}
+use Rattle.loops.proofs.parallel.loop_access.Tie as tie
+
+returns : tie.Need-returns
+returns c =
+    λ P loops known lt. access-is P known _ lt (c .before .before .before .access-of .ensures) (c .before .before .before .before .kind-at .ensures) (c .before .before .before .before .before .number-at .ensures)
+    (c .before .before .number-at2 .ensures) (c .before .flag-at .ensures) (c .byte-at .ensures .0)
+
+pub loop-access-spec : {M : Type 1} → statement M
+loop-access-spec =
+    tie.close
+    (tie.spec
+    (λ c κs. search needs)
+    (λ c κs. search needs)
+    (λ c κs. search needs)
+    (λ c κs. search needs)
+    (λ c κs. search needs)
+    (λ c. search needs)
+    (λ c. search needs)
+    (λ c κs. search needs)
+    returns)

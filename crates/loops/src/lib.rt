@@ -1,0 +1,5 @@
+// Loops: section 4's statements, and which loops can run in parallel.
+pub mod kinds;
+pub mod lookup;
+pub mod parallel;
+pub mod statements;
