@@ -1,38 +1,35 @@
--- Section 5: the tables of kinds, read by tests of the kind or at the kind, and the checks of a node in order. Assumes nothing.
-use Prim.Native.Nat.{ℕ, _+_, _-_, _*_, _≤_, _<_}
+-- Section 5: the tables of kinds, read at the kind of a record, and the checks of a node in order. Assumes nothing.
+use Prim.Native.Nat.{ℕ, zero, suc, _+_, _*_, _≤_, _<_}
 use mathlib.Core.Path.{_≡_, refl, sym, _∙_, ap, fun-ext}
-use mathlib.Core.Bool.{Bool, true, false}
-use mathlib.Core.List.{List, [], _∷_, map}
+use mathlib.Core.Bool.{Bool, true, false, and-true}
+use mathlib.Core.Logic.{inl, inr}
+use mathlib.Core.List.{List, [], _∷_}
 use native.Mathlib.Omega.{arith}
-use lib.ListN.{getD, length, List·getD-map}
-use Rattle.model.specs.Tests.{Is, _and_, non, _==_, _<?_}
-use Rattle.model.specs.Bytes.{Bytes}
-use Rattle.model.specs.Outcomes.{require, _then_, scan}
-use Rattle.model.specs.Recursion.{below}
-use Rattle.model.specs.Layout.{Plan, nodeCount, mapCount, nodeA, nodeB, nodeKind, nodeUnused, source, target, suppliedRegion}
-use Rattle.model.specs.Nodes.{nodeCheck, duplicateNode, nodeFormed, nodeFormedRows, nodeAgrees, nodeAgreesRows, nodeRegion, nodeRegionRows, nodeRegionStep}
-use Rattle.model.proofs.Tests.{both, less, at-each}
+use lib.ListN.{getD, length, set}
+use Rattle.model.specs.Tests.{Is, _and_, non, any, _==_, _<?_}
+use Rattle.model.specs.Outcomes.{require, _then_}
+use Rattle.model.specs.Layout.{Plan, nodeCount, mapCount, nodeA, nodeB, nodeKind, nodeUnused, source, target}
+use Rattle.model.specs.Nodes.{nodeCheck, duplicateNode, sameNode, nodeFormed, nodeFormedRows, nodeAgrees, nodeAgreesRows, nodeRegion, nodeRegionRows, nodeRegionStep}
+use Rattle.model.proofs.Tests.{Firsts, both, pair, same, same!, less, latest, at-each}
+use Rattle.model.proofs.Outcomes.{then-pass, require-pass}
 use Rattle.model.proofs.Recursion.{below-at, course-law}
 use Rattle.model.specs.declared.Refusal.the-variants.{InvalidRecord, RegionMismatch, DuplicateNode}
-use Rattle.model.specs.declared.Outcome.the-variants.{Refuse}
-use Rattle.layout.specs.Parts.{parts}
-use Rattle.expressions.specs.Nodes.{FormedTurn}
-use Rattle.expressions.specs.Rows.{rowAmong}
+use Rattle.model.specs.declared.Outcome.the-variants.{Pass, Refuse}
+use Rattle.layout.proofs.Filling.{next-filled}
+use Rattle.layout.proofs.Scanning.{Scanning}
+use Rattle.expressions.specs.Nodes.{nodeNumber, numberOf, isAmong, NodeRead, EarlierNodes, FormedNode, NodeRegionOf, NodeChecked}
 use Rattle.expressions.specs.declared.nodes.Node.{Node}
-use Rattle.expressions.proofs.Rows.{picked, in-table}
-use Rattle.expressions.proofs.RecordValues.{nodeOf}
+use Rattle.expressions.specs.declared.nodes.NodeRegion.{NodeRegion}
+use Rattle.expressions.specs.declared.nodes.CheckedNode.{CheckedNode}
+use Rattle.expressions.proofs.Rows.{in-table, same-truth}
 
 module _ (P : Plan) (j : ℕ) where
   abbrev pub formedBy : ℕ → Bool
   formedBy k = getD (nodeFormedRows P) k (λ i. false) j
 
-  known-kind : (k : ℕ) → Is (formedBy k) → k < 7
+  pub known-kind : (k : ℕ) → Is (formedBy k) → k < 7
   unfolding nodeFormedRows
   known-kind = in-table (nodeFormedRows P) (λ i. false) (λ (f : ℕ → Bool). f j) refl
-
-  pub formed-rows : (nodeUnused P j == 0 and rowAmong 0 7 formedBy (nodeKind P j)) ≡ nodeFormed P j
-  unfolding nodeFormed
-  formed-rows = ap (λ (b : Bool). nodeUnused P j == 0 and b) (picked 0 7 formedBy _ (omega arith) (known-kind _))
 
   pub unformed-check : nodeFormed P j ≡ false → nodeCheck P j ≡ Refuse (InvalidRecord (5 * 256 + j))
   unfolding nodeCheck require _then_
@@ -44,72 +41,127 @@ module _ (P : Plan) (j : ℕ) where
   unfolding nodeCheck require _then_
   formed-check h = rw h
 
--- the rows of agreement, with the regions that a function has
-abbrev agreesRows : Plan → ℕ → (ℕ → ℕ) → List Bool
-agreesRows P j region =
-    true ∷ true ∷ (region (nodeA P j) == region (nodeB P j)) ∷ (region (nodeA P j) == region (nodeB P j))
-    ∷ (region (nodeA P j) == region (nodeB P j)) ∷ (region (nodeA P j) == source P (nodeB P j))
-    ∷ (region (nodeA P j) == target P (nodeB P j)) ∷ []
+  unused-byte : nodeCheck P j ≡ Pass → nodeUnused P j ≡ 0
+  unfolding nodeCheck nodeFormed
+  unused-byte h = same (both (require-pass _ _ (then-pass _ _ h .0)) .0)
+
+module _ (P : Plan) {j : ℕ} {node : Node} (read : NodeRead (P .nodes) j node) where
+  -- the rows of n kinds from a on have one test, and the record's kind is among them
+  pub formed-among : node .unused ≡ 0 → (a n : ℕ) {test : Bool} → Firsts (λ k. test ≡ formedBy P j k) a n
+      → a ≤ node .kind → node .kind < a + n → test ≡ nodeFormed P j
+  unfolding nodeFormed _and_ _==_
+  formed-among blank a n {test} rows from to =
+      let row = at-each (λ k. test ≡ formedBy P j k) a n rows (node .kind) from to in
+      rw (← read .unused, blank, ← read .kind) row
+
+  pub formed-bounds : Is (nodeFormed P j) → (node .unused ≡ 0) × (node .kind < 7)
+  unfolding nodeFormed
+  formed-bounds formed = let b = both formed in (read .unused ∙ same (b .0), rw (read .kind) (known-kind P j _ (b .1)))
+
+-- kinds 2 to 4 have one row
+pub thrice : {A : Type 0} → A → A × (A × (A × Unit {0}))
+thrice x = (x, (x, (x, tt)))
 
 -- with the regions of the nodes before j in a table
-module _ {maps supplied nodes : Bytes} {table : List ℕ} {j : ℕ} (known : FormedTurn maps supplied nodes table j) where
-  abbrev plan : Plan
-  plan = parts (known .regions) maps supplied [] nodes [] []
-
+module _ {P : Plan} {table : List ℕ} {node : Node} {j : ℕ} (known : FormedNode P table node j) where
   abbrev regionAt : ℕ → ℕ
   regionAt k = getD table k 0
 
-  region-rows : getD (map (λ (f : ℕ → ℕ → (ℕ → ℕ) → ℕ). f (nodeA plan j) (nodeB plan j) regionAt) (nodeRegionRows plan)) (nodeKind plan j) 0
-      ≡ nodeRegion plan j
+  abbrev pub regionBy : ℕ → ℕ
+  regionBy k = getD (nodeRegionRows P) k (λ a b t. 0) (nodeA P j) (nodeB P j) regionAt
+
+  region-known : regionBy (node .kind) ≡ nodeRegion P j
   unfolding nodeRegion nodeRegionStep
-  region-rows =
-      List·getD-map _ (nodeRegionRows plan) (nodeKind plan j) (λ a b t. 0)
-      ∙ ap (nodeRegionStep plan j) (fun-ext (known .turn .earlier))
-      ∙ sym (course-law 0 (nodeRegionStep plan) j)
+  region-known =
+      rw (known .read .kind) (ap (nodeRegionStep P j) (fun-ext (known .regions)) ∙ sym (course-law 0 (nodeRegionStep P) j))
 
-  pub region-read : {node : Node} {left from to own region : ℕ} → node ≡ nodeOf nodes j → left ≡ regionAt (node .a)
-      → from ≡ source plan (node .b) → to ≡ target plan (node .b) → own ≡ suppliedRegion plan (node .a)
-      → region ≡ getD (own ∷ node .a ∷ left ∷ left ∷ left ∷ to ∷ from ∷ []) (node .kind) 0
-      → region ≡ nodeRegion plan j
-  unfolding nodeRegionRows
-  region-read {node} {left} {from} {to} {own} is l f t o e =
-      let rows : own ∷ node .a ∷ left ∷ left ∷ left ∷ to ∷ from ∷ []
-      ≡ map (λ (g : ℕ → ℕ → (ℕ → ℕ) → ℕ). g (nodeA plan j) (nodeB plan j) regionAt) (nodeRegionRows plan) = rw (l, f, t, o, is) in
-      e ∙ ap (λ (xs : List ℕ). getD xs (node .kind) 0) rows ∙ rw is region-rows
-
+  -- the rows of agreement, with the regions that the table has
   abbrev pub agreesBy : ℕ → Bool
-  agreesBy k = getD (agreesRows plan j regionAt) k false
+  agreesBy k =
+      getD
+      (true ∷ true ∷ (regionAt (nodeA P j) == regionAt (nodeB P j)) ∷ (regionAt (nodeA P j) == regionAt (nodeB P j))
+      ∷ (regionAt (nodeA P j) == regionAt (nodeB P j)) ∷ (regionAt (nodeA P j) == source P (nodeB P j))
+      ∷ (regionAt (nodeA P j) == target P (nodeB P j)) ∷ []) k false
 
-  same-region : (k : ℕ) → Is (k <? j) → regionAt k ≡ nodeRegion plan k
-  same-region k lt = known .turn .earlier k ∙ below-at 0 j (nodeRegion plan) k (less lt)
+  same-region : (k : ℕ) → Is (k <? j) → regionAt k ≡ nodeRegion P k
+  same-region k lt = known .regions k ∙ below-at 0 j (nodeRegion P) k (less lt)
 
-  agrees-at : (k : ℕ) → Is (formedBy plan j k) → agreesBy k ≡ getD (agreesRows plan j (nodeRegion plan)) k false
-  unfolding nodeFormedRows
+  abbrev agreesRow : ℕ → Bool
+  agreesRow k = getD (nodeAgreesRows P) k (λ i. false) j
+
+  agrees-at : (k : ℕ) → Is (formedBy P j k) → agreesBy k ≡ agreesRow k
+  unfolding nodeFormedRows nodeAgreesRows
   agrees-at k h =
-      at-each (λ i. Is (formedBy plan j i) → agreesBy i ≡ getD (agreesRows plan j (nodeRegion plan)) i false) 0 7
-      (λ o. refl, (λ o. refl, (of-nodes, (of-nodes, (of-nodes, (of-map _, (of-map _, tt))))))) k (omega arith) (known-kind plan j k h) h
+      at-each (λ i. Is (formedBy P j i) → agreesBy i ≡ agreesRow i) 0 7
+      (λ o. refl, (λ o. refl, (of-nodes, (of-nodes, (of-nodes, (of-map _, (of-map _, tt))))))) k (omega arith) (known-kind P j k h) h
     where
-      of-nodes : Is (nodeA plan j <? j and nodeB plan j <? j)
-          → (regionAt (nodeA plan j) == regionAt (nodeB plan j)) ≡ (nodeRegion plan (nodeA plan j) == nodeRegion plan (nodeB plan j))
+      of-nodes : Is (nodeA P j <? j and nodeB P j <? j)
+          → (regionAt (nodeA P j) == regionAt (nodeB P j)) ≡ (nodeRegion P (nodeA P j) == nodeRegion P (nodeB P j))
       of-nodes o = rw (same-region _ (both o .0), same-region _ (both o .1))
 
-      of-map : (v : ℕ) → Is (nodeA plan j <? j and nodeB plan j <? mapCount plan)
-          → (regionAt (nodeA plan j) == v) ≡ (nodeRegion plan (nodeA plan j) == v)
+      of-map : (v : ℕ) → Is (nodeA P j <? j and nodeB P j <? mapCount P)
+          → (regionAt (nodeA P j) == v) ≡ (nodeRegion P (nodeA P j) == v)
       of-map v o = rw (same-region _ (both o .0))
 
-  pub agrees-rows : rowAmong 0 7 agreesBy (nodeKind plan j) ≡ nodeAgrees plan j
-  unfolding nodeFormed nodeAgrees nodeAgreesRows
-  agrees-rows =
-      let formed = both (known .formed) .1 in
-      picked 0 7 agreesBy _ (omega arith) (λ a. known-kind plan j _ formed)
-      ∙ agrees-at _ formed
-      ∙ List·getD-map (λ (f : ℕ → Bool). f j) (nodeAgreesRows plan) (nodeKind plan j) (λ k. false)
+  agrees-known : agreesBy (node .kind) ≡ nodeAgrees P j
+  unfolding nodeFormed nodeAgrees
+  agrees-known = rw (known .read .kind) (agrees-at _ (both (known .formed) .1))
 
--- the loop over the nodes, before node j: the table has the regions so far, and what is left to scan is the whole outcome
-pub record Reading (P : Plan) (count : ℕ) (table : List ℕ) (j : ℕ) : Type 0 where
+  -- the rows of n kinds from a on have this region and agreement, and the record's kind is among them
+  pub region-among : (a n : ℕ) {r : NodeRegion} → Firsts (λ k. (r .region ≡ regionBy k) × (r .agrees ≡ agreesBy k)) a n
+      → a ≤ node .kind → node .kind < a + n → r .region < 256 → NodeRegionOf P j r
+  region-among a n {r} rows from to small =
+      let row = at-each (λ k. (r .region ≡ regionBy k) × (r .agrees ≡ agreesBy k)) a n rows (node .kind) from to in
+      record { region = row .0 ∙ region-known; agrees = row .1 ∙ agrees-known; small = small }
+
+-- two nodes of bytes have one number where they are one node
+pub number-same : {k a b k' a' b' : ℕ} → k < 256 → a < 256 → b < 256 → k' < 256 → a' < 256 → b' < 256
+    → (nodeNumber k a b == nodeNumber k' a' b') ≡ (k == k' and a == a' and b == b')
+number-same {k} {a} {b} {k'} {a'} {b'} k< a< b< k'< a'< b'< =
+    same-truth
+    (λ h.
+    let e : nodeNumber k a b ≡ nodeNumber k' a' b' = same h in
+    pair (same! (omega arith)) (pair (same! (omega arith)) (same! (omega arith))))
+    (λ h.
+    let e-k = same (both h .0) in
+    let e-a = same (both (both h .1) .0) in
+    let e-b = same (both (both h .1) .1) in
+    same! (omega arith))
+
+any-same : (n : ℕ) (f g : ℕ → Bool) → ((k : ℕ) → k < n → f k ≡ g k) → any n f ≡ any n g
+unfolding any
+any-same zero f g e = refl
+any-same (suc n) f g e = rw (any-same n f g (λ k lt. e k (omega arith)), e n (omega arith))
+
+module _ {P : Plan} {regionTable numberTable : List ℕ} {j : ℕ} (earlier : EarlierNodes P regionTable numberTable j)
+    (bytes : (i : ℕ) → getD (P .nodes) i 0 < 256) where
+  -- an entry of the table, compared with the number of a node of bytes
+  pub numbered : (i : ℕ) → i < j → (k a b : ℕ) → k < 256 → a < 256 → b < 256
+      → (getD numberTable i 0 == nodeNumber k a b) ≡ (nodeKind P i == k and nodeA P i == a and nodeB P i == b)
+  numbered i lt k a b k< a< b< =
+      rw (earlier .numbers i, below-at 0 j (numberOf P) i lt) (number-same (bytes _) (bytes _) (bytes _) k< a< b<)
+
+  pub duplicate-known : {number : ℕ} → nodeUnused P j ≡ 0 → number ≡ numberOf P j → isAmong numberTable number j ≡ duplicateNode P j
+  unfolding duplicateNode sameNode _and_ _==_
+  duplicate-known blank e =
+      rw e (any-same j _ _ (λ k lt. rw (earlier .unused k lt, blank, and-true) (numbered k lt _ _ _ (bytes _) (bytes _) (bytes _))))
+
+-- after node j, which passes
+pub next-earlier : {P : Plan} {regionTable numberTable : List ℕ} {j : ℕ} {r : CheckedNode} → EarlierNodes P regionTable numberTable j
+    → j < length regionTable → j < length numberTable → NodeChecked P j r → r .outcome ≡ Pass
+    → EarlierNodes P (set regionTable j (r .region)) (set numberTable j (r .number)) (j + 1)
+next-earlier {P} {regionTable} {numberTable} {j} earlier in-regions in-numbers node pass =
+    record {
+      regions = next-filled _ regionTable j _ in-regions (earlier .regions) (node .region pass);
+      numbers = next-filled _ numberTable j _ in-numbers (earlier .numbers) (node .number);
+      unused = λ k lt. elim (latest k j (omega arith)) [ inl e ↦ rw e (unused-byte P j (sym (node .outcome) ∙ pass)) | inr l ↦ earlier .unused k l ];
+    }
+
+-- the loop over the nodes, before node j
+pub record Reading (P : Plan) (count : ℕ) (regionTable numberTable : List ℕ) (j : ℕ) : Type 0 where
   pub counted : count ≡ nodeCount P
   pub few : count ≤ 48
-  pub inside : j ≤ count
-  pub wide : length table ≡ 48
-  pub earlier : (k : ℕ) → getD table k 0 ≡ below 0 j (nodeRegion P) k
-  pub left : scan (nodeCheck P) j (count - j) ≡ scan (nodeCheck P) 0 (nodeCount P)
+  pub wide : length regionTable ≡ 48
+  pub room : length numberTable ≡ 48
+  pub earlier : EarlierNodes P regionTable numberTable j
+  pub scanning : Scanning (nodeCheck P) (nodeCount P) j

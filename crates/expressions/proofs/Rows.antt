@@ -9,7 +9,7 @@ use Rattle.model.specs.Tests.{Is}
 use Rattle.model.proofs.Tests.{falsum, both, pair, same, same!, some-of, among}
 use Rattle.expressions.specs.Rows.{rowAmong}
 
-same-truth : {a b : Bool} → (Is a → Is b) → (Is b → Is a) → a ≡ b
+pub same-truth : {a b : Bool} → (Is a → Is b) → (Is b → Is a) → a ≡ b
 same-truth {a = true} {b = true} f g = refl
 same-truth {a = true} {b = false} f g = falsum (f refl)
 same-truth {a = false} {b = true} f g = falsum (g refl)

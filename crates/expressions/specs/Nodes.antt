@@ -1,13 +1,14 @@
--- A record of section 5 as it is read, and the table of the nodes' regions.
-use Prim.Native.Nat.{ℕ, _+_, _*_, _<_}
+-- A record of section 5 as it is read, and the tables of the nodes' regions and numbers.
+use Prim.Native.Nat.{ℕ, _+_, _*_, _<_, _≤_}
 use mathlib.Core.Path.{_≡_}
+use mathlib.Core.Bool.{Bool}
 use mathlib.Core.List.{List, []}
 use lib.ListN.{getD, length}
-use Rattle.model.specs.Tests.{Is}
+use Rattle.model.specs.Tests.{Is, _and_, _==_, any}
 use Rattle.model.specs.Bytes.{Bytes}
 use Rattle.model.specs.Recursion.{below}
 use Rattle.model.specs.Outcomes.{scan}
-use Rattle.model.specs.Layout.{Plan, nodeCount}
+use Rattle.model.specs.Layout.{Plan, nodeCount, nodeKind, nodeA, nodeB, nodeUnused}
 use Rattle.model.specs.Nodes.{nodeFormed, nodeRegion, nodeAgrees, nodeCheck}
 use Rattle.model.specs.declared.Outcome.the-variants.{Pass}
 use Rattle.layout.specs.Parts.{parts}
@@ -16,40 +17,72 @@ use Rattle.expressions.specs.declared.nodes.NodeRegion.{NodeRegion}
 use Rattle.expressions.specs.declared.nodes.CheckedNode.{CheckedNode}
 use Rattle.expressions.specs.declared.nodes.CheckedNodes.{CheckedNodes}
 
+-- kind, a and b as one number
+abbrev pub nodeNumber : ℕ → ℕ → ℕ → ℕ
+nodeNumber kind a b = kind + a * 256 + b * 65536
+
+-- the number of node j
+abbrev pub numberOf : Plan → ℕ → ℕ
+numberOf P j = nodeNumber (nodeKind P j) (nodeA P j) (nodeB P j)
+
+-- one of the first n numbers is this one
+abbrev pub isAmong : List ℕ → ℕ → ℕ → Bool
+isAmong numbers number n = any n (λ k. getD numbers k 0 == number)
+
 -- what was read is node j: "kind, a, b, 0", bytes
 pub record NodeRead (nodes : Bytes) (j : ℕ) (r : Node) : Type 0 where
   pub kind : r .kind ≡ getD nodes (j * 4) 0
   pub a : r .a ≡ getD nodes (j * 4 + 1) 0
   pub b : r .b ≡ getD nodes (j * 4 + 2) 0
   pub unused : r .unused ≡ getD nodes (j * 4 + 3) 0
+  pub small-kind : r .kind < 256
   pub small-a : r .a < 256
   pub small-b : r .b < 256
 
--- node k stands before node j
-pub record NodePair (nodes : Bytes) (j k : ℕ) : Type 0 where
-  pub inside : j * 4 + 3 < length nodes
-  pub before : k < j
+-- the tables have the regions and the numbers of the nodes before j, and 0 elsewhere; the unused bytes of these nodes are 0
+pub record EarlierNodes (P : Plan) (regionTable numberTable : List ℕ) (j : ℕ) : Type 0 where
+  pub regions : (k : ℕ) → getD regionTable k 0 ≡ below 0 j (nodeRegion P) k
+  pub numbers : (k : ℕ) → getD numberTable k 0 ≡ below 0 j (numberOf P) k
+  pub unused : (k : ℕ) → k < j → nodeUnused P k ≡ 0
 
--- node j is next, and the table has the regions of the nodes before it, and 0 elsewhere
-pub record NodeTurn (P : Plan) (table : List ℕ) (j : ℕ) : Type 0 where
+-- node j is next
+pub record NodeTurn (P : Plan) (regionTable numberTable : List ℕ) (j : ℕ) : Type 0 where
   pub inside : j * 4 + 3 < length (P .nodes)
-  pub earlier : (k : ℕ) → getD table k 0 ≡ below 0 j (nodeRegion P) k
+  pub room : j ≤ length numberTable
+  pub earlier : EarlierNodes P regionTable numberTable j
 
--- node j is next, and it is formed in a plan with these sections
-pub record FormedTurn (maps supplied nodes : Bytes) (table : List ℕ) (j : ℕ) : Type 0 where
-  pub regions : Bytes
-  pub turn : NodeTurn (parts regions maps supplied [] nodes [] []) table j
-  pub formed : Is (nodeFormed (parts regions maps supplied [] nodes [] []) j)
+-- whether node j is formed, of any plan with these sections that has this record there
+abbrev pub FormedRead : Bytes → Bytes → Bytes → Node → ℕ → Bool → Type 0
+FormedRead regions maps supplied node j r =
+    (nodes : Bytes) → NodeRead nodes j node → r ≡ nodeFormed (parts regions maps supplied [] nodes [] []) j
+
+-- node j is this record, it is formed, and the table has the regions of the nodes before it
+pub record FormedNode (P : Plan) (regionTable : List ℕ) (node : Node) (j : ℕ) : Type 0 where
+  pub read : NodeRead (P .nodes) j node
+  pub formed : Is (nodeFormed P j)
+  pub regions : (k : ℕ) → getD regionTable k 0 ≡ below 0 j (nodeRegion P) k
 
 pub record NodeRegionOf (P : Plan) (j : ℕ) (r : NodeRegion) : Type 0 where
   pub region : r .region ≡ nodeRegion P j
   pub agrees : r .agrees ≡ nodeAgrees P j
+  pub small : r .region < 256
+
+-- the region of this record, in any plan with these sections where it is formed
+abbrev pub RegionRead : Bytes → Bytes → List ℕ → Node → NodeRegion → Type 0
+RegionRead maps supplied table node r =
+    (regions nodes : Bytes) (j : ℕ) → FormedNode (parts regions maps supplied [] nodes [] []) table node j
+    → NodeRegionOf (parts regions maps supplied [] nodes [] []) j r
 
 pub record NodeChecked (P : Plan) (j : ℕ) (r : CheckedNode) : Type 0 where
   pub outcome : r .outcome ≡ nodeCheck P j
   pub region : r .outcome ≡ Pass → r .region ≡ nodeRegion P j
+  pub small : r .region < 256
+  pub number : r .number ≡ numberOf P j
 
--- the outcome of section 5 and, after a pass, the region of each node
+-- the outcome of section 5 and, after a pass, the region and the number of each node
 pub record NodesChecked (P : Plan) (r : CheckedNodes) : Type 0 where
   pub outcome : r .outcome ≡ scan (nodeCheck P) 0 (nodeCount P)
   pub regions : r .outcome ≡ Pass → (j : ℕ) → j < nodeCount P → getD (r .regions) j 0 ≡ nodeRegion P j
+  pub room : length (r .numbers) ≡ 48
+  pub numbers : r .outcome ≡ Pass → (j : ℕ) → j < nodeCount P → (k a b : ℕ) → k < 256 → a < 256 → b < 256
+      → (getD (r .numbers) j 0 == nodeNumber k a b) ≡ (nodeKind P j == k and nodeA P j == a and nodeB P j == b)

@@ -3,7 +3,7 @@ use model::Conclusion;
 use model::Lemma;
 ghost use mathlib.Core.Path.{_≡_};
 ghost use Prim.Native.Nat.{_-_};
-ghost use Rattle.model.specs.Lemmas.{lemmaRow, isSubset, isDisjoint, isComplete};
+ghost use Rattle.model.specs.Lemmas.{lemmaRow};
 
 const LEMMAS: [Lemma; 20] = [
     Lemma {
@@ -170,37 +170,4 @@ pub fn lemma_row(lemma: usize) -> Lemma
 {
     let place = row_place(lemma);
     if place < 20 { LEMMAS[place] } else { NO_LEMMA }
-}
-
-// Whether the conclusion is of the form SUB(x, y).
-pub fn is_subset(conclusion: Conclusion) -> bool
-    ensures { λ r. ⌜ r ≡ isSubset conclusion ⌝ }
-{
-    match conclusion {
-        Conclusion::Subset => true,
-        Conclusion::Disjoint => false,
-        Conclusion::Complete => false,
-    }
-}
-
-// Whether the conclusion is of the form DISJ(x).
-pub fn is_disjoint(conclusion: Conclusion) -> bool
-    ensures { λ r. ⌜ r ≡ isDisjoint conclusion ⌝ }
-{
-    match conclusion {
-        Conclusion::Subset => false,
-        Conclusion::Disjoint => true,
-        Conclusion::Complete => false,
-    }
-}
-
-// Whether the conclusion is of the form COMP(x).
-pub fn is_complete(conclusion: Conclusion) -> bool
-    ensures { λ r. ⌜ r ≡ isComplete conclusion ⌝ }
-{
-    match conclusion {
-        Conclusion::Subset => false,
-        Conclusion::Disjoint => false,
-        Conclusion::Complete => true,
-    }
 }

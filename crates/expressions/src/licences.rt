@@ -7,17 +7,17 @@ use crate::nodes::PREIMAGE;
 use crate::nodes::SUPPLIED;
 use crate::nodes::UNION;
 use crate::nodes::node_at;
+use crate::steps::Premises;
 use crate::steps::Step;
-use crate::steps::concludes_complete;
-use crate::steps::concludes_disjoint;
-use crate::steps::concludes_subset;
-use crate::steps::step_at;
+use crate::steps::complete_number;
+use crate::steps::disjoint_number;
+use crate::steps::subset_number;
 use layout::bytes::byte_at;
 ghost use mathlib.Core.Path.{_≡_};
 ghost use mathlib.Core.List.{[]};
 ghost use Rattle.model.specs.Lemmas.{licence};
 ghost use Rattle.layout.specs.Parts.{parts};
-ghost use Rattle.expressions.specs.Steps.{StepBytes, KnownStep, licensedBy};
+ghost use Rattle.expressions.specs.Steps.{StepBytes, KnownStep, KnownPremises, licensedBy};
 
 // Lemmas 1 to 5: x is equal, or supplied and so declared; y is x.
 fn leaf_licensed(supplied: &[u8], nodes: &[u8], step: Step) -> bool
@@ -34,19 +34,19 @@ fn leaf_licensed(supplied: &[u8], nodes: &[u8], step: Step) -> bool
 }
 
 // Lemmas 6 to 11: SUB by way of a third node, and by union, intersection and difference.
-fn operator_licensed(nodes: &[u8], steps: &[u8], step: Step) -> bool
-    requires { ⌜ StepBytes step ⌝ }
+fn operator_licensed(nodes: &[u8], steps: &[u8], step: Step, premises: Premises) -> bool
+    requires { ⌜ KnownPremises (now steps) step premises ⌝ }
     ensures { λ r. ⌜ r ≡ licensedBy (parts [] [] [] [] (now (nodes .entry)) [] (now (steps .entry))) 6 6 step ⌝ }
 {
     let x = node_at(nodes, step.x);
     let y = node_at(nodes, step.y);
-    let middle = step_at(steps, step.p).y;
-    let x_in_middle = concludes_subset(steps, step.p, step.x, middle);
-    let middle_in_y = concludes_subset(steps, step.q, middle, step.y);
-    let left_in_y = concludes_subset(steps, step.p, x.a, step.y);
-    let right_in_y = concludes_subset(steps, step.q, x.b, step.y);
-    let x_in_left = concludes_subset(steps, step.p, step.x, y.a);
-    let x_in_right = concludes_subset(steps, step.q, step.x, y.b);
+    let middle = byte_at(steps, step.p * 5 + 2);
+    let x_in_middle = premises.p == subset_number(step.x, middle);
+    let middle_in_y = premises.q == subset_number(middle, step.y);
+    let left_in_y = premises.p == subset_number(x.a, step.y);
+    let right_in_y = premises.q == subset_number(x.b, step.y);
+    let x_in_left = premises.p == subset_number(step.x, y.a);
+    let x_in_right = premises.q == subset_number(step.x, y.b);
     ((step.lemma == 6) & (x_in_middle & middle_in_y))
         | ((step.lemma == 7) & ((y.kind == UNION) & ((y.a == step.x) | (y.b == step.x))))
         | ((step.lemma == 8) & ((x.kind == UNION) & (left_in_y & right_in_y)))
@@ -56,16 +56,16 @@ fn operator_licensed(nodes: &[u8], steps: &[u8], step: Step) -> bool
 }
 
 // Lemmas 12 to 14: SUB by image and preimage.
-fn map_licensed(nodes: &[u8], steps: &[u8], step: Step) -> bool
-    requires { ⌜ StepBytes step ⌝ }
+fn map_licensed(nodes: &[u8], steps: &[u8], step: Step, premises: Premises) -> bool
+    requires { ⌜ KnownPremises (now steps) step premises ⌝ }
     ensures { λ r. ⌜ r ≡ licensedBy (parts [] [] [] [] (now (nodes .entry)) [] (now (steps .entry))) 12 3 step ⌝ }
 {
     let x = node_at(nodes, step.x);
     let y = node_at(nodes, step.y);
-    let middle = step_at(steps, step.p).y;
+    let middle = byte_at(steps, step.p * 5 + 2);
     let z = node_at(nodes, middle);
-    let operands = (x.b == y.b) & concludes_subset(steps, step.p, x.a, y.a);
-    let operand_in_middle = concludes_subset(steps, step.p, x.a, middle);
+    let operands = (x.b == y.b) & (premises.p == subset_number(x.a, y.a));
+    let operand_in_middle = premises.p == subset_number(x.a, middle);
     let preimage_of_y = (z.kind == PREIMAGE) & ((z.a == step.y) & (z.b == x.b));
     ((step.lemma == 12) & ((x.kind == IMAGE) & ((y.kind == IMAGE) & operands)))
         | ((step.lemma == 13) & ((x.kind == PREIMAGE) & ((y.kind == PREIMAGE) & operands)))
@@ -73,15 +73,15 @@ fn map_licensed(nodes: &[u8], steps: &[u8], step: Step) -> bool
 }
 
 // Lemmas 15 to 18: DISJ from a larger partition, and by intersection, difference and preimage.
-fn disjoint_licensed(nodes: &[u8], steps: &[u8], step: Step) -> bool
-    requires { ⌜ StepBytes step ⌝ }
+fn disjoint_licensed(nodes: &[u8], steps: &[u8], step: Step, premises: Premises) -> bool
+    requires { ⌜ KnownPremises (now steps) step premises ⌝ }
     ensures { λ r. ⌜ r ≡ licensedBy (parts [] [] [] [] (now (nodes .entry)) [] (now (steps .entry))) 15 4 step ⌝ }
 {
     let x = node_at(nodes, step.x);
-    let y_disjoint = concludes_disjoint(steps, step.p, step.y);
-    let x_in_y = concludes_subset(steps, step.q, step.x, step.y);
-    let left_disjoint = concludes_disjoint(steps, step.p, x.a);
-    let right_disjoint = concludes_disjoint(steps, step.p, x.b);
+    let y_disjoint = premises.p == disjoint_number(step.y);
+    let x_in_y = premises.q == subset_number(step.x, step.y);
+    let left_disjoint = premises.p == disjoint_number(x.a);
+    let right_disjoint = premises.p == disjoint_number(x.b);
     ((step.lemma == 15) & (y_disjoint & x_in_y))
         | ((step.lemma == 16) & ((x.kind == INTERSECTION) & (left_disjoint | right_disjoint)))
         | ((step.lemma == 17) & ((x.kind == DIFFERENCE) & left_disjoint))
@@ -89,30 +89,43 @@ fn disjoint_licensed(nodes: &[u8], steps: &[u8], step: Step) -> bool
 }
 
 // Lemmas 19 and 20: COMP from a smaller partition, and by preimage under a total map.
-fn complete_licensed(maps: &[u8], nodes: &[u8], steps: &[u8], step: Step) -> bool
-    requires { ⌜ StepBytes step ⌝ }
+fn complete_licensed(
+    maps: &[u8],
+    nodes: &[u8],
+    steps: &[u8],
+    step: Step,
+    premises: Premises,
+) -> bool
+    requires { ⌜ KnownPremises (now steps) step premises ⌝ }
     ensures { λ r. ⌜ r ≡ licensedBy (parts [] (now (maps .entry)) [] [] (now (nodes .entry)) [] (now (steps .entry))) 19 2 step ⌝ }
 {
     let x = node_at(nodes, step.x);
     let totality = byte_at(maps, x.b * 3 + 2);
-    let y_complete = concludes_complete(steps, step.p, step.y);
-    let y_in_x = concludes_subset(steps, step.q, step.y, step.x);
-    let operand_complete = concludes_complete(steps, step.p, x.a);
+    let y_complete = premises.p == complete_number(step.y);
+    let y_in_x = premises.q == subset_number(step.y, step.x);
+    let operand_complete = premises.p == complete_number(x.a);
     ((step.lemma == 19) & (y_complete & y_in_x))
         | ((step.lemma == 20) & ((x.kind == PREIMAGE) & ((totality == 1) & operand_complete)))
 }
 
 // Whether a step of a known lemma is by that lemma.
-pub fn is_licensed(maps: &[u8], supplied: &[u8], nodes: &[u8], steps: &[u8], step: Step) -> bool
-    requires { ⌜ KnownStep step ⌝ }
+pub fn is_licensed(
+    maps: &[u8],
+    supplied: &[u8],
+    nodes: &[u8],
+    steps: &[u8],
+    step: Step,
+    premises: Premises,
+) -> bool
+    requires { ⌜ KnownStep (now steps) step premises ⌝ }
     ensures { λ r. ⌜ r ≡ licence (parts [] (now (maps .entry)) (now (supplied .entry)) [] (now (nodes .entry)) [] (now (steps .entry))) (step .lemma) (step .x) (step .y) (step .p) (step .q) ⌝ }
 {
     let lemma = step.lemma;
     match lemma {
         1..=5 => leaf_licensed(supplied, nodes, step),
-        6..=11 => operator_licensed(nodes, steps, step),
-        12..=14 => map_licensed(nodes, steps, step),
-        15..=18 => disjoint_licensed(nodes, steps, step),
-        _ => complete_licensed(maps, nodes, steps, step),
+        6..=11 => operator_licensed(nodes, steps, step, premises),
+        12..=14 => map_licensed(nodes, steps, step, premises),
+        15..=18 => disjoint_licensed(nodes, steps, step, premises),
+        _ => complete_licensed(maps, nodes, steps, step, premises),
     }
 }

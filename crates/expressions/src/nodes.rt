@@ -1,6 +1,5 @@
 // Section 5: expressions.
 use layout::bytes::byte_at;
-use layout::lookup::number_at;
 use layout::outcomes::and_then;
 use layout::outcomes::require;
 use model::Outcome;
@@ -9,9 +8,8 @@ ghost use mathlib.Core.Path.{_≡_};
 ghost use mathlib.Core.List.{[]};
 ghost use Prim.Native.Nat.{_+_, _*_, _/_, _^_, _≤_, _<_};
 ghost use lib.ListN.{length};
-ghost use Rattle.model.specs.Nodes.{nodeFormed, sameNode, duplicateNode};
 ghost use Rattle.layout.specs.Parts.{parts};
-ghost use Rattle.expressions.specs.Nodes.{NodeRead, NodePair, NodeTurn, FormedTurn, NodeRegionOf, NodeChecked, NodesChecked};
+ghost use Rattle.expressions.specs.Nodes.{nodeNumber, isAmong, NodeRead, NodeTurn, FormedRead, RegionRead, NodeChecked, NodesChecked};
 
 // The kinds of nodes.
 pub const SUPPLIED: usize = 0;
@@ -42,19 +40,28 @@ pub struct NodeRegion {
     pub agrees: bool,
 }
 
-// The outcome of a node and, after a pass, its region.
+// The outcome of a node and, after a pass, its region and its number.
 pub struct CheckedNode {
     pub outcome: Outcome,
     pub region: usize,
+    pub number: u32,
 }
 
-// The outcome of section 5 and, after a pass, the region of each node.
+// The outcome of section 5 and, after a pass, the region and the number of each node.
 pub struct CheckedNodes {
     pub outcome: Outcome,
-    pub regions: [usize; 48],
+    pub regions: [u8; 48],
+    pub numbers: [u32; 48],
 }
 
-// The record of node j.
+// A byte as a number.
+pub fn wide(byte: u8) -> usize
+    ensures { λ r. ⌜ (r ≡ byte) × (r < 256) ⌝ }
+{
+    byte as usize
+}
+
+// The record of node j, of bytes 0 where there is none.
 pub fn node_at(nodes: &[u8], j: usize) -> Node
     requires { ⌜ j * 4 + 3 < 2 ^ 64 ⌝ }
     ensures { λ r. ⌜ NodeRead (now (nodes .entry)) j r ⌝ }
@@ -66,73 +73,86 @@ pub fn node_at(nodes: &[u8], j: usize) -> Node
     Node { kind, a, b, unused }
 }
 
-// Whether the kind of node j is known, its operands are there and its unused bytes are 0.
-fn is_formed(regions: &[u8], maps: &[u8], supplied: &[u8], nodes: &[u8], j: usize) -> bool
-    requires { ⌜ j * 4 + 3 < 2 ^ 64 ⌝ }
-    ensures { λ r. ⌜ r ≡ nodeFormed (parts (now (regions .entry)) (now (maps .entry)) (now (supplied .entry)) [] (now (nodes .entry)) [] []) j ⌝ }
-{
-    let node = node_at(nodes, j);
-    let of_nodes = (node.a < j) & (node.b < j);
-    let of_map = (node.a < j) & (node.b < maps.len() / 3);
-    (node.unused == 0)
-        & (((node.kind == SUPPLIED) & ((node.a < supplied.len() / 2) & (node.b == 0)))
-            | ((node.kind == EQUAL) & ((node.a < regions.len()) & (node.b == 0)))
-            | ((node.kind == UNION) & of_nodes)
-            | ((node.kind == INTERSECTION) & of_nodes)
-            | ((node.kind == DIFFERENCE) & of_nodes)
-            | ((node.kind == IMAGE) & of_map)
-            | ((node.kind == PREIMAGE) & of_map))
-}
-
-// The region of node j, and whether the regions of its operands agree.
-fn region_of(maps: &[u8], supplied: &[u8], nodes: &[u8], earlier: &[usize], j: usize) -> NodeRegion
-    requires { ⌜ FormedTurn (now maps) (now supplied) (now nodes) (now earlier) j ⌝ }
-    ensures { λ r. ⌜ NodeRegionOf (parts [] (now (maps .entry)) (now (supplied .entry)) [] (now (nodes .entry)) [] []) j r ⌝ }
-{
-    let node = node_at(nodes, j);
-    let kind = node.kind;
-    let left = number_at(earlier, node.a);
-    let right = number_at(earlier, node.b);
-    let source = byte_at(maps, node.b * 3);
-    let target = byte_at(maps, node.b * 3 + 1);
-    let own = byte_at(supplied, node.a * 2);
-    let by_kind = [own, node.a, left, left, left, target, source];
-    let agrees = (kind == SUPPLIED)
-        | (kind == EQUAL)
-        | ((kind == UNION) & (left == right))
-        | ((kind == INTERSECTION) & (left == right))
-        | ((kind == DIFFERENCE) & (left == right))
-        | ((kind == IMAGE) & (left == source))
-        | ((kind == PREIMAGE) & (left == target));
-    let region = number_at(&by_kind, kind);
-    NodeRegion { region, agrees }
-}
-
-// Whether node k has the record of node j.
-fn is_same(nodes: &[u8], j: usize, k: usize) -> bool
-    requires { ⌜ NodePair (now nodes) j k ⌝ }
-    ensures { λ r. ⌜ r ≡ sameNode (parts [] [] [] [] (now (nodes .entry)) [] []) j k ⌝ }
-{
-    let earlier = k * 4;
-    let own = j * 4;
-    (nodes[earlier] == nodes[own])
-        & ((nodes[earlier + 1] == nodes[own + 1])
-            & ((nodes[earlier + 2] == nodes[own + 2]) & (nodes[earlier + 3] == nodes[own + 3])))
-}
-
-// Whether an earlier node has the record of node j.
-fn is_duplicate(nodes: &[u8], j: usize) -> bool
+// The record of node j, which is there.
+fn read_node(nodes: &[u8], j: usize) -> Node
     requires { ⌜ j * 4 + 3 < length (now nodes) ⌝ }
-    ensures { λ r. ⌜ r ≡ duplicateNode (parts [] [] [] [] (now (nodes .entry)) [] []) j ⌝ }
+    ensures { λ r. ⌜ NodeRead (now (nodes .entry)) j r ⌝ }
 {
+    let kind = wide(nodes[j * 4]);
+    let a = wide(nodes[j * 4 + 1]);
+    let b = wide(nodes[j * 4 + 2]);
+    let unused = wide(nodes[j * 4 + 3]);
+    Node { kind, a, b, unused }
+}
+
+// Kind and operands of a node as one number.
+pub fn node_number(kind: usize, a: usize, b: usize) -> u32
+    requires { ⌜ (kind < 256) × ((a < 256) × (b < 256)) ⌝ }
+    ensures { λ r. ⌜ r ≡ nodeNumber kind a b ⌝ }
+{
+    (kind + a * 256 + b * 65536) as u32
+}
+
+// Whether the kind of node j is known, its operands are there and its unused bytes are 0.
+fn is_formed(regions: &[u8], maps: &[u8], supplied: &[u8], node: Node, j: usize) -> bool
+    ensures { λ r. ⌜ FormedRead (now (regions .entry)) (now (maps .entry)) (now (supplied .entry)) node j r ⌝ }
+{
+    if node.unused != 0 {
+        return false;
+    }
+    let kind = node.kind;
+    match kind {
+        SUPPLIED => (node.a < supplied.len() / 2) & (node.b == 0),
+        EQUAL => (node.a < regions.len()) & (node.b == 0),
+        UNION..=DIFFERENCE => (node.a < j) & (node.b < j),
+        IMAGE..=PREIMAGE => (node.a < j) & (node.b < maps.len() / 3),
+        _ => false,
+    }
+}
+
+// The region of a formed node, and whether the regions of its operands agree.
+fn region_of(maps: &[u8], supplied: &[u8], earlier: &[u8], node: Node) -> NodeRegion
+    requires { ⌜ (node .a < 256) × (node .b < 256) ⌝ }
+    ensures { λ r. ⌜ RegionRead (now (maps .entry)) (now (supplied .entry)) (now (earlier .entry)) node r ⌝ }
+{
+    let left = byte_at(earlier, node.a);
+    let kind = node.kind;
+    match kind {
+        SUPPLIED => NodeRegion {
+            region: byte_at(supplied, node.a * 2),
+            agrees: true,
+        },
+        EQUAL => NodeRegion {
+            region: node.a,
+            agrees: true,
+        },
+        IMAGE => NodeRegion {
+            region: byte_at(maps, node.b * 3 + 1),
+            agrees: left == byte_at(maps, node.b * 3),
+        },
+        PREIMAGE => NodeRegion {
+            region: byte_at(maps, node.b * 3),
+            agrees: left == byte_at(maps, node.b * 3 + 1),
+        },
+        _ => NodeRegion {
+            region: left,
+            agrees: left == byte_at(earlier, node.b),
+        },
+    }
+}
+
+// Whether one of the first j numbers is this one. It runs to its end, so that several are compared at once.
+fn is_among(numbers: &[u32], number: u32, j: usize) -> bool
+    requires { ⌜ j ≤ length (now numbers) ⌝ }
+    ensures { λ r. ⌜ r ≡ isAmong (now (numbers .entry)) number j ⌝ }
+{
+    let mut found = false;
     let mut k = 0;
     while k < j {
-        if is_same(nodes, j, k) {
-            return true;
-        }
+        found = found | (numbers[k] == number);
         k += 1;
     }
-    false
+    found
 }
 
 // At node j: its form, the regions of its operands, and that no earlier node is equal.
@@ -141,42 +161,58 @@ fn check_node(
     maps: &[u8],
     supplied: &[u8],
     nodes: &[u8],
-    earlier: &[usize],
+    earlier: &[u8],
+    numbers: &[u32],
     j: usize,
 ) -> CheckedNode
-    requires { ⌜ NodeTurn (parts (now regions) (now maps) (now supplied) [] (now nodes) [] []) (now earlier) j ⌝ }
+    requires { ⌜ NodeTurn (parts (now regions) (now maps) (now supplied) [] (now nodes) [] []) (now earlier) (now numbers) j ⌝ }
     ensures { λ r. ⌜ NodeChecked (parts (now (regions .entry)) (now (maps .entry)) (now (supplied .entry)) [] (now (nodes .entry)) [] []) j r ⌝ }
 {
-    if is_formed(regions, maps, supplied, nodes, j) {
-        let node = region_of(maps, supplied, nodes, earlier, j);
-        let agrees = require(node.agrees, Refusal::RegionMismatch(5 * 256 + j));
-        let distinct = require(!is_duplicate(nodes, j), Refusal::DuplicateNode(j));
+    let node = read_node(nodes, j);
+    let number = node_number(node.kind, node.a, node.b);
+    if is_formed(regions, maps, supplied, node, j) {
+        let known = region_of(maps, supplied, earlier, node);
+        let agrees = require(known.agrees, Refusal::RegionMismatch(5 * 256 + j));
+        let distinct = require(!is_among(numbers, number, j), Refusal::DuplicateNode(j));
         let outcome = and_then(agrees, distinct);
-        let region = node.region;
-        CheckedNode { outcome, region }
+        let region = known.region;
+        CheckedNode {
+            outcome,
+            region,
+            number,
+        }
     } else {
         let outcome = Outcome::Refuse(Refusal::InvalidRecord(5 * 256 + j));
-        CheckedNode { outcome, region: 0 }
+        CheckedNode {
+            outcome,
+            region: 0,
+            number,
+        }
     }
 }
 
-// Section 5: the first refusal of its nodes in order, or the table of their regions.
+// Section 5: the first refusal of its nodes in order, or the tables of their regions and numbers.
 pub fn check_nodes(regions: &[u8], maps: &[u8], supplied: &[u8], nodes: &[u8]) -> CheckedNodes
     requires { ⌜ length (now nodes) / 4 ≤ 48 ⌝ }
     ensures { λ r. ⌜ NodesChecked (parts (now (regions .entry)) (now (maps .entry)) (now (supplied .entry)) [] (now (nodes .entry)) [] []) r ⌝ }
 {
     let count = nodes.len() / 4;
-    let mut table = [0usize; 48];
+    let mut table = [0u8; 48];
+    let mut numbers = [0u32; 48];
     let mut j = 0;
     while j < count {
-        let node = check_node(regions, maps, supplied, nodes, &table, j);
+        let node = check_node(regions, maps, supplied, nodes, &table, &numbers, j);
         let outcome = node.outcome;
         match outcome {
-            Outcome::Pass => table[j] = node.region,
+            Outcome::Pass => {
+                table[j] = node.region as u8;
+                numbers[j] = node.number;
+            }
             Outcome::Refuse(refusal) => {
                 return CheckedNodes {
                     outcome: Outcome::Refuse(refusal),
                     regions: table,
+                    numbers,
                 }
             }
         }
@@ -185,5 +221,6 @@ pub fn check_nodes(regions: &[u8], maps: &[u8], supplied: &[u8], nodes: &[u8]) -
     CheckedNodes {
         outcome: Outcome::Pass,
         regions: table,
+        numbers,
     }
 }

@@ -1,19 +1,19 @@
 // Section 7: lemma steps.
-use crate::lemmas::is_complete;
-use crate::lemmas::is_disjoint;
-use crate::lemmas::is_subset;
 use crate::lemmas::lemma_row;
 use crate::licences::is_licensed;
-use layout::bytes::byte_at;
+use crate::nodes::wide;
 use layout::outcomes::require;
+use model::Conclusion;
+use model::Lemma;
 use model::Outcome;
 use model::Refusal;
 ghost use mathlib.Core.Path.{_≡_};
 ghost use mathlib.Core.List.{[]};
-ghost use Prim.Native.Nat.{_+_, _*_, _^_, _<_};
-ghost use Rattle.model.specs.Lemmas.{concludesSubset, concludesDisjoint, concludesComplete, inUse, stepFormed, stepCheck};
+ghost use Prim.Native.Nat.{_+_, _*_, _/_, _≤_, _<_};
+ghost use lib.ListN.{length};
+ghost use Rattle.model.specs.Lemmas.{lemmaRow, inUse, stepCheck};
 ghost use Rattle.layout.specs.Parts.{parts};
-ghost use Rattle.expressions.specs.Steps.{StepRead, stepsCheck};
+ghost use Rattle.expressions.specs.Steps.{subsetNumber, disjointNumber, completeNumber, conclusionNumber, StepRead, FormedRead, PremisesRead, StepTurn, StepsRead};
 
 // A record of section 7.
 pub struct Step {
@@ -24,56 +24,59 @@ pub struct Step {
     pub q: usize,
 }
 
-// The record of step t.
-pub fn step_at(steps: &[u8], t: usize) -> Step
-    requires { ⌜ t * 5 + 4 < 2 ^ 64 ⌝ }
+// What steps p and q of a step conclude, as numbers.
+pub struct Premises {
+    pub p: u32,
+    pub q: u32,
+}
+
+// The record of step t, which is there.
+fn step_at(steps: &[u8], t: usize) -> Step
+    requires { ⌜ t * 5 + 4 < length (now steps) ⌝ }
     ensures { λ r. ⌜ StepRead (now (steps .entry)) t r ⌝ }
 {
-    let lemma = byte_at(steps, t * 5);
-    let x = byte_at(steps, t * 5 + 1);
-    let y = byte_at(steps, t * 5 + 2);
-    let p = byte_at(steps, t * 5 + 3);
-    let q = byte_at(steps, t * 5 + 4);
+    let lemma = wide(steps[t * 5]);
+    let x = wide(steps[t * 5 + 1]);
+    let y = wide(steps[t * 5 + 2]);
+    let p = wide(steps[t * 5 + 3]);
+    let q = wide(steps[t * 5 + 4]);
     Step { lemma, x, y, p, q }
 }
 
-// Whether step t concludes SUB(x, y).
-pub fn concludes_subset(steps: &[u8], t: usize, x: usize, y: usize) -> bool
-    requires { ⌜ t * 5 + 4 < 2 ^ 64 ⌝ }
-    ensures { λ r. ⌜ r ≡ concludesSubset (parts [] [] [] [] [] [] (now (steps .entry))) t x y ⌝ }
+// SUB(x, y) as a number.
+pub fn subset_number(x: usize, y: usize) -> u32
+    requires { ⌜ (x < 256) × (y < 256) ⌝ }
+    ensures { λ r. ⌜ r ≡ subsetNumber x y ⌝ }
 {
-    if byte_at(steps, t * 5 + 1) != x {
-        return false;
-    }
-    if byte_at(steps, t * 5 + 2) != y {
-        return false;
-    }
-    let conclusion = lemma_row(byte_at(steps, t * 5)).conclusion;
-    is_subset(conclusion)
+    (x * 256 + y) as u32
 }
 
-// Whether step t concludes DISJ(x).
-pub fn concludes_disjoint(steps: &[u8], t: usize, x: usize) -> bool
-    requires { ⌜ t * 5 + 4 < 2 ^ 64 ⌝ }
-    ensures { λ r. ⌜ r ≡ concludesDisjoint (parts [] [] [] [] [] [] (now (steps .entry))) t x ⌝ }
+// DISJ(x) as a number.
+pub fn disjoint_number(x: usize) -> u32
+    requires { ⌜ x < 256 ⌝ }
+    ensures { λ r. ⌜ r ≡ disjointNumber x ⌝ }
 {
-    if byte_at(steps, t * 5 + 1) != x {
-        return false;
-    }
-    let conclusion = lemma_row(byte_at(steps, t * 5)).conclusion;
-    is_disjoint(conclusion)
+    (65536 + x * 256) as u32
 }
 
-// Whether step t concludes COMP(x).
-pub fn concludes_complete(steps: &[u8], t: usize, x: usize) -> bool
-    requires { ⌜ t * 5 + 4 < 2 ^ 64 ⌝ }
-    ensures { λ r. ⌜ r ≡ concludesComplete (parts [] [] [] [] [] [] (now (steps .entry))) t x ⌝ }
+// COMP(x) as a number.
+pub fn complete_number(x: usize) -> u32
+    requires { ⌜ x < 256 ⌝ }
+    ensures { λ r. ⌜ r ≡ completeNumber x ⌝ }
 {
-    if byte_at(steps, t * 5 + 1) != x {
-        return false;
+    (131072 + x * 256) as u32
+}
+
+// What a step of this form concludes of x and y, as a number.
+fn conclusion_number(conclusion: Conclusion, x: usize, y: usize) -> u32
+    requires { ⌜ (x < 256) × (y < 256) ⌝ }
+    ensures { λ r. ⌜ r ≡ conclusionNumber conclusion x y ⌝ }
+{
+    match conclusion {
+        Conclusion::Subset => subset_number(x, y),
+        Conclusion::Disjoint => disjoint_number(x),
+        Conclusion::Complete => complete_number(x),
     }
-    let conclusion = lemma_row(byte_at(steps, t * 5)).conclusion;
-    is_complete(conclusion)
 }
 
 // A number that is used is below its bound; one that is not is 0.
@@ -84,12 +87,10 @@ fn in_use(used: bool, bound: usize, number: usize) -> bool
 }
 
 // Whether the lemma of step t is known, and x, y, p and q are as its row has them.
-fn is_formed(nodes: &[u8], steps: &[u8], t: usize) -> bool
-    requires { ⌜ t * 5 + 4 < 2 ^ 64 ⌝ }
-    ensures { λ r. ⌜ r ≡ stepFormed (parts [] [] [] [] (now (nodes .entry)) [] (now (steps .entry))) t ⌝ }
+fn is_formed(nodes: &[u8], step: Step, row: Lemma, t: usize) -> bool
+    requires { ⌜ row ≡ lemmaRow (step .lemma) ⌝ }
+    ensures { λ r. ⌜ FormedRead (now (nodes .entry)) step t r ⌝ }
 {
-    let step = step_at(steps, t);
-    let row = lemma_row(step.lemma);
     let count = nodes.len() / 4;
     let x = in_use(row.x, count, step.x);
     let y = in_use(row.y, count, step.y);
@@ -98,28 +99,61 @@ fn is_formed(nodes: &[u8], steps: &[u8], t: usize) -> bool
     (1 <= step.lemma) & ((step.lemma <= 20) & (x & (y & (p & q))))
 }
 
+// What steps p and q of a step conclude.
+fn premises_of(conclusions: &[u32], step: Step) -> Premises
+    requires { ⌜ (step .p < length (now conclusions)) × (step .q < length (now conclusions)) ⌝ }
+    ensures { λ r. ⌜ PremisesRead (now (conclusions .entry)) step r ⌝ }
+{
+    let p = step.p;
+    let q = step.q;
+    Premises {
+        p: conclusions[p],
+        q: conclusions[q],
+    }
+}
+
 // At step t: its form, then whether it is by its lemma.
-fn check_step(maps: &[u8], supplied: &[u8], nodes: &[u8], steps: &[u8], t: usize) -> Outcome
-    requires { ⌜ t * 5 + 4 < 2 ^ 64 ⌝ }
+fn check_step(
+    maps: &[u8],
+    supplied: &[u8],
+    nodes: &[u8],
+    steps: &[u8],
+    conclusions: &[u32],
+    step: Step,
+    row: Lemma,
+    t: usize,
+) -> Outcome
+    requires { ⌜ StepTurn (now steps) (now conclusions) step row t ⌝ }
     ensures { λ r. ⌜ r ≡ stepCheck (parts [] (now (maps .entry)) (now (supplied .entry)) [] (now (nodes .entry)) [] (now (steps .entry))) t ⌝ }
 {
-    if is_formed(nodes, steps, t) {
-        let step = step_at(steps, t);
-        let licensed = is_licensed(maps, supplied, nodes, steps, step);
+    if is_formed(nodes, step, row, t) {
+        let premises = premises_of(conclusions, step);
+        let licensed = is_licensed(maps, supplied, nodes, steps, step, premises);
         require(licensed, Refusal::UnlicensedStep(t))
     } else {
         Outcome::Refuse(Refusal::InvalidRecord(7 * 256 + t))
     }
 }
 
-// Section 7: the first refusal of its steps in order.
-pub fn check_steps(maps: &[u8], supplied: &[u8], nodes: &[u8], steps: &[u8]) -> Outcome
-    ensures { λ r. ⌜ r ≡ stepsCheck (parts [] (now (maps .entry)) (now (supplied .entry)) [] (now (nodes .entry)) [] (now (steps .entry))) ⌝ }
+// Section 7: the first refusal of its steps in order, and the table of what they conclude.
+pub fn check_steps(
+    maps: &[u8],
+    supplied: &[u8],
+    nodes: &[u8],
+    steps: &[u8],
+    conclusions: &mut [u32; 128],
+) -> Outcome
+    requires { ⌜ (length (now steps) / 5 ≤ 128) × (length (now conclusions) ≡ 128) ⌝ }
+    ensures { λ r. ⌜ StepsRead (parts [] (now (maps .entry)) (now (supplied .entry)) [] (now (nodes .entry)) [] (now (steps .entry))) r (now (conclusions .exit)) ⌝ }
 {
     let count = steps.len() / 5;
     let mut t = 0;
     while t < count {
-        match check_step(maps, supplied, nodes, steps, t) {
+        let step = step_at(steps, t);
+        let row = lemma_row(step.lemma);
+        let conclusion = row.conclusion;
+        conclusions[t] = conclusion_number(conclusion, step.x, step.y);
+        match check_step(maps, supplied, nodes, steps, conclusions, step, row, t) {
             Outcome::Pass => {}
             Outcome::Refuse(refusal) => return Outcome::Refuse(refusal),
         }

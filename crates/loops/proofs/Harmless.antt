@@ -29,14 +29,10 @@ module _ (P : Plan) (f s : ℕ) where
   unfolding harmless
   elsewhere ne = one (inl (other-loop ne))
 
-  -- it is apart from every access of another loop, and in its own loop from those that do not forbid it
+  -- it is apart from every access of another loop
   pub apart-elsewhere : (a : ℕ) → (loop P s ≡ f → ⊥) → Is (apart P f a s)
   unfolding apart
   apart-elsewhere a ne = one (inl (other-loop ne))
-
-  pub apart-within : (a : ℕ) → loop P s ≡ f → apart P f a s ≡ not (accesses P s) || not (conflicts P a s)
-  unfolding apart accessOfLoop _and_ _or_ non
-  apart-within a e = rw (same! e, and-true)
 
   idle : Is (non (accesses P s)) → Is (harmless P f s)
   unfolding harmless accessOfLoop
@@ -92,15 +88,20 @@ pub loop-checked : (P : Plan) (f : ℕ) → opens P f ≡ true → loopCheck P f
 unfolding loopCheck non _or_
 loop-checked P f o = rw o
 
--- an uncentered reduction of the loop: a reduction is an access
-module _ (P : Plan) (f s : ℕ) where
-  pub other-reduction : (loop P s ≡ f → ⊥) → pointerReduction P f s ≡ false
-  unfolding pointerReduction accessOfLoop
-  other-reduction ne = fails (refuted (λ h. ne (same (both (both h .0) .1))))
+-- an uncentered reduction of the loop stands in it
+pub other-reduction : (P : Plan) (f s : ℕ) → (loop P s ≡ f → ⊥) → pointerReduction P f s ≡ false
+unfolding pointerReduction accessOfLoop
+other-reduction P f s ne = fails (refuted (λ h. ne (same (both (both h .0) .1))))
 
-  pub own-reduction : loop P s ≡ f → pointerReduction P f s ≡ (reduces P s and uncentered P s)
+-- a statement in its own loop
+module _ (P : Plan) (s : ℕ) where
+  pub apart-within : (a : ℕ) → apart P (loop P s) a s ≡ not (accesses P s) || not (conflicts P a s)
+  unfolding apart accessOfLoop _and_ _or_ non
+  apart-within a = rw (same! {a = loop P s} refl, and-true)
+
+  pub own-reduction : pointerReduction P (loop P s) s ≡ (reduces P s and uncentered P s)
   unfolding pointerReduction accessOfLoop accesses reduces isReduce isAccess _and_
-  own-reduction e = rw (same! e) (go (accessOf (kind P s)))
+  own-reduction = rw (same! {a = loop P s} refl) (go (accessOf (kind P s)))
     where
       go : (a : Access) → ((isAccess a && true) && (isReduce a && uncentered P s)) ≡ (isReduce a && uncentered P s)
       go Nothing = refl

@@ -3,4 +3,5 @@ pub mod Depends
 pub mod Stored
 pub mod Tracking
 pub mod Pairs
+pub mod Spans
 pub mod Harmless

@@ -1,5 +1,5 @@
 -- The accesses of loops, read from section 4's bytes and tables. Assumes nothing.
-use Prim.Native.Nat.{ℕ, _+_, _*_, _/_, _≤_, _<_}
+use Prim.Native.Nat.{ℕ, _+_, _*_, _/_, _<_}
 use mathlib.Core.Path.{_≡_, refl, sym, _∙_}
 use mathlib.Core.List.{List}
 use mathlib.Core.Bool.{Bool, true, false}
@@ -9,7 +9,7 @@ use lib.ListN.{getD, length}
 use Rattle.model.specs.Tests.{Is, every}
 use Rattle.model.specs.Bytes.{Bytes}
 use Rattle.model.specs.Layout.{Plan, statementCount}
-use Rattle.model.specs.Statements.{kind, accessOf, operandDefinition, centered}
+use Rattle.model.specs.Statements.{kind, opensLoop, opens, accessOf, operandDefinition, centered}
 use Rattle.model.specs.declared.Access.{Access}
 use Rattle.model.specs.declared.StatementKind.{StatementKind}
 use Rattle.model.proofs.Tests.{falsum, pair, every-at}
@@ -25,8 +25,13 @@ module _ (P : Plan) {statements : Bytes} (section : P .statements ≡ statements
   unfolding kind
   kind-of-plan s e = rw section e
 
-module _ (P : Plan) {statements : Bytes} {operands regions : List ℕ} {centers : List Bool} {loops : List ℕ}
-    (known : LoopsKnown P statements operands regions centers loops) where
+pub opens-of-plan : (P : Plan) (s : ℕ) {statements : Bytes} → P .statements ≡ statements → {k : StatementKind} {b : Bool}
+    → k ≡ kind (statementParts statements) s → b ≡ opensLoop k → b ≡ opens P s
+unfolding opens
+opens-of-plan P s section k e = rw (e, kind-of-plan P section s k)
+
+module _ (P : Plan) {statements : Bytes} {operands regions : List ℕ} {centers : List Bool}
+    (known : LoopsKnown P statements operands regions centers) where
   pub access-is : (s : ℕ) → s < statementCount P → {access : Access} {k : StatementKind} {o region operator : ℕ} {z : Bool}
       → access ≡ accessOf k → k ≡ kind (statementParts statements) s → o ≡ getD operands s 0
       → region ≡ getD regions o 0 → z ≡ getD centers o false → operator ≡ getD statements (s * 4 + 3) 0
@@ -48,8 +53,8 @@ module _ (P : Plan) {statements : Bytes} {operands regions : List ℕ} {centers 
         known .section,
       )
 
-module _ (P : Plan) {statements : Bytes} {operands : List ℕ} {centers : List Bool} {loops : List ℕ}
-    (known : PointersKnown P statements operands centers loops) where
+module _ (P : Plan) {statements : Bytes} {operands : List ℕ} {centers : List Bool}
+    (known : PointersKnown P statements operands centers) where
   -- whether the variable that statement s works on is centered
   pub operand-centered : (s : ℕ) → s < statementCount P → {o : ℕ} {z : Bool} → o ≡ getD operands s 0 → z ≡ getD centers o false
       → z ≡ centered P (operandDefinition P s)
@@ -58,23 +63,14 @@ module _ (P : Plan) {statements : Bytes} {operands : List ℕ} {centers : List B
       rw (z, o, known .operands-are .holds s lt, known .centers-are .holds (operandDefinition P s) earlier)
 
 -- a loop over all numbers below a bound: all passed so far, or one fails
-module _ (f : ℕ → Bool) where
-  pub every-start : Is (every 0 f)
+module _ (f : ℕ → Bool) (k : ℕ) where
+  pub every-next : Is (every k f) → Is (f k) → Is (every (k + 1) f)
   unfolding every
-  every-start = refl
+  every-next h e = rw (add-one k) (pair h e)
 
-  module _ (k : ℕ) where
-    pub every-next : Is (every k f) → Is (f k) → Is (every (k + 1) f)
-    unfolding every
-    every-next h e = rw (add-one k) (pair h e)
-
-    module _ (n : ℕ) where
-      pub every-fails : k < n → f k ≡ false → every n f ≡ false
-      every-fails lt e = go (every n f) refl
-        where
-          go : (b : Bool) → every n f ≡ b → every n f ≡ false
-          go true h = falsum (sym e ∙ every-at n f h k lt)
-          go false h = h
-
-      pub every-end : {m : ℕ} → m ≡ n → k ≤ m → m ≤ k → Is (every k f) → Is (every n f)
-      every-end e a b h = let all : n ≡ k = omega arith in rw all h
+  pub every-fails : (n : ℕ) → k < n → f k ≡ false → every n f ≡ false
+  every-fails n lt e = go (every n f) refl
+    where
+      go : (b : Bool) → every n f ≡ b → every n f ≡ false
+      go true h = falsum (sym e ∙ every-at n f h k lt)
+      go false h = h

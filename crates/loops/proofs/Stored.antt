@@ -1,16 +1,14 @@
 -- Tables by number: what is read of one below its bound, and what is stored next. Assumes nothing.
-use Prim.Native.Nat.{ℕ, zero, suc, _+_, _≤_, _<_}
+use Prim.Native.Nat.{ℕ, _+_, _<_}
 use mathlib.Core.Path.{_≡_, refl, sym, _∙_}
 use mathlib.Core.List.{List}
 use mathlib.Core.Bool.{Bool, true, false}
 use native.Mathlib.Omega.{arith}
-use lib.ListN.{getD, replicate, set, length-set}
+use lib.ListN.{getD, set, length-set}
 use lib.Seq.{getD-set-same, getD-set-other}
 use lib.Dec.{eqb, ltb}
-use borrow.Author.Tests.{ltb-true, ltb-false, le-ltb, eqb-true, eqb-false}
-use Rattle.model.specs.Tests.{_<?_}
+use borrow.Author.Tests.{ltb-true, ltb-false, eqb-true, eqb-false}
 use Rattle.model.specs.Recursion.{below}
-use Rattle.model.proofs.Tests.{pick-false}
 use Rattle.model.proofs.Recursion.{below-at}
 use Rattle.layout.proofs.Filling.{below-past}
 use Rattle.loops.specs.Tables.{Table}

@@ -13,7 +13,7 @@ use Rattle.model.specs.Tests.{Is, _and_, _or_, _==_, pick}
 use Rattle.model.specs.Recursion.{below}
 use Rattle.model.specs.Outcomes.{scan}
 use Rattle.model.specs.Layout.{Plan, statementCount}
-use Rattle.model.specs.Statements.{kind, opensLoop, opens, definesVariable, defines, variables, definition, operand, operandDefinition, loop, loopBefore, regionBy, variableRegion, centeredBy, centered, statementFormedBy, statementFormed, statementCheck}
+use Rattle.model.specs.Statements.{kind, opensLoop, opens, definesVariable, defines, variables, definition, operand, operandDefinition, regionBy, variableRegion, centeredBy, centered, statementFormedBy, statementFormed, statementCheck}
 use Rattle.model.specs.declared.StatementKind.{StatementKind}
 use Rattle.model.specs.declared.StatementKind.the-variants.{For, Load, Call, Copy, Read, Write, Reduce, Unknown}
 use Rattle.model.specs.declared.Refusal.{Refusal}
@@ -129,7 +129,7 @@ module _ (P : Plan) where
         go Reduce f d = falsum d
         go Unknown f d = falsum d
 
-    -- what is stored of statement s: the variable that it works on, the region of the one that it defines, whether that is centered, its loop
+    -- what is stored of statement s: the variable that it works on, the region of the one that it defines, whether that is centered
     pub operand-value : (v : Variables) → Tracks P s v → getD (v .definitions) (operand P s) 0 ≡ operandDefinition P s
     unfolding operandDefinition
     operand-value v t = t .defined (operand P s)
@@ -168,62 +168,53 @@ module _ (P : Plan) where
         by-kind Reduce h = refl
         by-kind Unknown h = refl
 
-    pub loop-value : (before : ℕ) → before ≡ loopBefore P s → pick (opensLoop (kind P s)) s before ≡ loop P s
-    unfolding loopBefore opens
-    loop-value before e = rw e
-
     -- the tables with statement s entered
-    pub enters : {v : Variables} {opened : ℕ} {operands regions : List ℕ} {centers : List Bool} {loops : List ℕ}
-        → Entered P s v opened operands regions centers loops
-        → {o r l : ℕ} {c : Bool} → o ≡ operandDefinition P s → r ≡ variableRegion P s → c ≡ centered P s → l ≡ loop P s
-        → StatementTables P (s + 1) (set operands s o) (set regions s r) (set centers s c) (set loops s l)
-    enters e o r c l =
+    pub enters : {v : Variables} {operands regions : List ℕ} {centers : List Bool}
+        → Entered P s v operands regions centers
+        → {o r : ℕ} {c : Bool} → o ≡ operandDefinition P s → r ≡ variableRegion P s → c ≡ centered P s
+        → StatementTables P (s + 1) (set operands s o) (set regions s r) (set centers s c)
+    enters e o r c =
         record {
           operands-are = stored (e .few) o (e .tables .operands-are);
           regions-are = stored (e .few) r (e .tables .regions-are);
           centers-are = stored (e .few) c (e .tables .centers-are);
-          loops-are = stored (e .few) l (e .tables .loops-are);
         }
 
 -- what holds before each statement of the reader's pass
-pub record Reading (P : Plan) (s : ℕ) (operands regions : List ℕ) (centers : List Bool) (loops : List ℕ) (v : Variables) (opened : ℕ) : Type 0 where
+pub record Reading (P : Plan) (s : ℕ) (operands regions : List ℕ) (centers : List Bool) (v : Variables) : Type 0 where
   pub bound : s ≤ statementCount P
   pub passed : scan (statementCheck P) s (statementCount P - s) ≡ scan (statementCheck P) 0 (statementCount P)
   pub tracks : Tracks P s v
-  pub opened-is : opened ≡ loopBefore P s
-  pub tables : StatementTables P s operands regions centers loops
+  pub tables : StatementTables P s operands regions centers
 
 -- the pass begins
-pub reading-starts : (P : Plan) {operands regions : List ℕ} {centers : List Bool} {loops : List ℕ}
-    → Fits (P .statements) operands regions centers loops
-    → Reading P 0 operands regions centers loops (record { count = 0; definitions = replicate 16 0 }) 0
-unfolding loopBefore
+pub reading-starts : (P : Plan) {operands regions : List ℕ} {centers : List Bool}
+    → Fits (P .statements) operands regions centers
+    → Reading P 0 operands regions centers (record { count = 0; definitions = replicate 16 0 })
 reading-starts P f =
     record {
       bound = zero-le;
       passed = scan-start (statementCheck P) (statementCount P);
       tracks = tracks-start P;
-      opened-is = refl;
       tables = record {
         operands-are = record { room = f .operands-room; holds = λ s lt. absurd (omega arith) };
         regions-are = record { room = f .regions-room; holds = λ s lt. absurd (omega arith) };
         centers-are = record { room = f .centers-room; holds = λ s lt. absurd (omega arith) };
-        loops-are = record { room = f .loops-room; holds = λ s lt. absurd (omega arith) };
       };
     }
 
-module _ (P : Plan) (s : ℕ) {operands regions : List ℕ} {centers : List Bool} {loops : List ℕ} {v : Variables} {opened : ℕ}
-    (reading : Reading P s operands regions centers loops v opened) where
+module _ (P : Plan) (s : ℕ) {operands regions : List ℕ} {centers : List Bool} {v : Variables}
+    (reading : Reading P s operands regions centers v) where
   -- it ends at a refusal, or after the last statement
-  pub reading-stops : {refusal : Refusal} {operands′ regions′ : List ℕ} {centers′ : List Bool} {loops′ : List ℕ}
-      → s < statementCount P → statementCheck P s ≡ Refuse refusal → StatementsRead P (Refuse refusal) operands′ regions′ centers′ loops′
+  pub reading-stops : {refusal : Refusal} {operands′ regions′ : List ℕ} {centers′ : List Bool}
+      → s < statementCount P → statementCheck P s ≡ Refuse refusal → StatementsRead P (Refuse refusal) operands′ regions′ centers′
   reading-stops lt e =
       record {
         outcome = sym (scan-stop (statementCheck P) (statementCount P) s lt e) ∙ reading .passed;
         tables = λ h. never h;
       }
 
-  pub reading-ends : statementCount P ≤ s → StatementsRead P Pass operands regions centers loops
+  pub reading-ends : statementCount P ≤ s → StatementsRead P Pass operands regions centers
   reading-ends le =
       let all : statementCount P ≡ s = omega (arith, reading .bound) in
       record {
@@ -237,16 +228,15 @@ module _ (P : Plan) (s : ℕ) {operands regions : List ℕ} {centers : List Bool
     unfolding defines
     room-for d = rw (reading .tracks .count-is) (room-left P s pass (rw is at d))
 
-    pub reading-next : {operands′ regions′ : List ℕ} {centers′ : List Bool} {loops′ : List ℕ} {v′ : Variables} {opened′ : ℕ}
-        → s < statementCount P → StatementTables P (s + 1) operands′ regions′ centers′ loops′
-        → opened′ ≡ pick (opensLoop k) s opened → v′ ≡ variablesAfter k s v
-        → Reading P (s + 1) operands′ regions′ centers′ loops′ v′ opened′
+    pub reading-next : {operands′ regions′ : List ℕ} {centers′ : List Bool} {v′ : Variables}
+        → s < statementCount P → StatementTables P (s + 1) operands′ regions′ centers′
+        → v′ ≡ variablesAfter k s v
+        → Reading P (s + 1) operands′ regions′ centers′ v′
     unfolding defines
-    reading-next lt tables o w =
+    reading-next lt tables w =
         record {
           bound = omega arith;
           passed = sym (scan-next (statementCheck P) (statementCount P) s lt pass) ∙ reading .passed;
           tracks = rw (w, is) (tracks-next P s v (λ d. room-for (rw is d)) (reading .tracks));
-          opened-is = rw (add-one s, o, is) (loop-value P s opened (reading .opened-is));
           tables = tables;
         }

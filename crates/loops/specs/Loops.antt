@@ -23,14 +23,20 @@ accessAt P s =
     }
 
 -- a plan of these statements, of which the tables hold the values
-pub record LoopsKnown (P : Plan) (statements : Bytes) (operands regions : List ℕ) (centers : List Bool) (loops : List ℕ) : Type 0 where
+pub record LoopsKnown (P : Plan) (statements : Bytes) (operands regions : List ℕ) (centers : List Bool) : Type 0 where
   pub section : P .statements ≡ statements
-  pub tables : StatementTables P (statementCount P) operands regions centers loops
+  pub tables : StatementTables P (statementCount P) operands regions centers
 
 -- statement s is one of at most 64
 pub record Within (statements : Bytes) (s : ℕ) : Type 0 where
   pub few : length statements / 4 ≤ 64
   pub inside : s < length statements / 4
+
+-- the statements of the loop of FOR f are those from f to before `end`
+pub record LoopSpan (P : Plan) (f end : ℕ) : Type 0 where
+  pub bound : end ≤ statementCount P
+  pub own : (s : ℕ) → f ≤ s → s < end → loop P s ≡ f
+  pub only : (s : ℕ) → s < statementCount P → loop P s ≡ f → (f ≤ s) × (s < end)
 
 -- access s forbids no access of the loop of FOR f
 unfoldable pub apart : Plan → ℕ → ℕ → ℕ → Bool
@@ -43,12 +49,11 @@ conflictFree P f s = every (statementCount P) (apart P f s)
 unfoldable pub harmless : Plan → ℕ → ℕ → Bool
 harmless P f s = non (accessOfLoop P f s) or non (writes P s and uncentered P s) and conflictFree P f s
 
--- a plan of these statements, of whose variables and loops the tables hold the values
-pub record PointersKnown (P : Plan) (statements : Bytes) (operands : List ℕ) (centers : List Bool) (loops : List ℕ) : Type 0 where
+-- a plan of these statements, of whose variables the tables hold the values
+pub record PointersKnown (P : Plan) (statements : Bytes) (operands : List ℕ) (centers : List Bool) : Type 0 where
   pub section : P .statements ≡ statements
   pub operands-are : Table 0 (statementCount P) operands (operandDefinition P)
   pub centers-are : Table false (statementCount P) centers (centered P)
-  pub loops-are : Table 0 (statementCount P) loops (loop P)
 
 -- statement s is an uncentered REDUCE of the loop of FOR f
 unfoldable pub pointerReduction : Plan → ℕ → ℕ → Bool

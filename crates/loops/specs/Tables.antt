@@ -8,7 +8,7 @@ use Rattle.model.specs.Tests.{pick}
 use Rattle.model.specs.Bytes.{Bytes}
 use Rattle.model.specs.Outcomes.{scan}
 use Rattle.model.specs.Layout.{Plan, statementCount}
-use Rattle.model.specs.Statements.{kind, opensLoop, definesVariable, variables, definition, operandDefinition, operandRegion, regionBy, variableRegion, centeredBy, centered, loop, loopBefore, statementCheck}
+use Rattle.model.specs.Statements.{kind, opensLoop, definesVariable, variables, definition, operandDefinition, operandRegion, regionBy, variableRegion, centeredBy, centered, statementCheck}
 use Rattle.model.specs.declared.StatementKind.{StatementKind}
 use Rattle.model.specs.declared.Outcome.{Outcome}
 use Rattle.model.specs.declared.Outcome.the-variants.{Pass}
@@ -60,33 +60,30 @@ pub record Table {A : Type 0} (default : A) (n : ℕ) (table : List A) (value : 
   pub holds : (s : ℕ) → s < n → getD table s default ≡ value s
 
 -- the tables of section 4
-pub record StatementTables (P : Plan) (n : ℕ) (operands regions : List ℕ) (centers : List Bool) (loops : List ℕ) : Type 0 where
+pub record StatementTables (P : Plan) (n : ℕ) (operands regions : List ℕ) (centers : List Bool) : Type 0 where
   pub operands-are : Table 0 n operands (operandDefinition P)
   pub regions-are : Table 0 n regions (variableRegion P)
   pub centers-are : Table false n centers (centered P)
-  pub loops-are : Table 0 n loops (loop P)
 
 -- what the reader is handed: few statements, and tables with room for them
-pub record Fits (statements : Bytes) (operands regions : List ℕ) (centers : List Bool) (loops : List ℕ) : Type 0 where
+pub record Fits (statements : Bytes) (operands regions : List ℕ) (centers : List Bool) : Type 0 where
   pub few : length statements / 4 ≤ 64
   pub operands-room : length operands ≡ 64
   pub regions-room : length regions ≡ 64
   pub centers-room : length centers ≡ 64
-  pub loops-room : length loops ≡ 64
 
 -- the reader before statement s: the statements before it are entered into the tables
-pub record Entered (P : Plan) (s : ℕ) (v : Variables) (opened : ℕ) (operands regions : List ℕ) (centers : List Bool) (loops : List ℕ) : Type 0 where
+pub record Entered (P : Plan) (s : ℕ) (v : Variables) (operands regions : List ℕ) (centers : List Bool) : Type 0 where
   pub few : s < 64
   pub tracks : Tracks P s v
-  pub opened-is : opened ≡ loopBefore P s
-  pub tables : StatementTables P s operands regions centers loops
+  pub tables : StatementTables P s operands regions centers
 
 -- what the reader answers of statement s, and leaves in the tables
-pub record StatementRead (P : Plan) (s : ℕ) (r : Outcome) (operands regions : List ℕ) (centers : List Bool) (loops : List ℕ) : Type 0 where
+pub record StatementRead (P : Plan) (s : ℕ) (r : Outcome) (operands regions : List ℕ) (centers : List Bool) : Type 0 where
   pub outcome : r ≡ statementCheck P s
-  pub tables : StatementTables P (s + 1) operands regions centers loops
+  pub tables : StatementTables P (s + 1) operands regions centers
 
 -- what the reader of section 4 answers and leaves in its tables
-pub record StatementsRead (P : Plan) (r : Outcome) (operands regions : List ℕ) (centers : List Bool) (loops : List ℕ) : Type 0 where
+pub record StatementsRead (P : Plan) (r : Outcome) (operands regions : List ℕ) (centers : List Bool) : Type 0 where
   pub outcome : r ≡ scan (statementCheck P) 0 (statementCount P)
-  pub tables : r ≡ Pass → StatementTables P (statementCount P) operands regions centers loops
+  pub tables : r ≡ Pass → StatementTables P (statementCount P) operands regions centers

@@ -5,12 +5,23 @@ ghost use Prim.Native.Nat.{_<_};
 ghost use lib.ListN.{getD};
 ghost use Rattle.model.specs.Recursion.{below};
 
-// The number that a table has for i, if that is below s.
-pub fn earlier_number(table: &[usize; 64], s: usize, i: usize, otherwise: usize) -> usize
-    requires { ⌜ s < 64 ⌝ }
-    ensures { λ r. ⌜ r ≡ below otherwise s (λ d. getD (now (table .entry)) d 0) i ⌝ }
+// A byte as a number.
+pub fn number_of(byte: u8) -> usize
+    ensures { λ r. ⌜ (r ≡ byte) × (r < 256) ⌝ }
 {
-    if i < s { table[i] } else { otherwise }
+    byte as usize
+}
+
+// The number that a table has for i, if that is below s.
+pub fn earlier_number(table: &[u8; 64], s: usize, i: usize, otherwise: usize) -> usize
+    requires { ⌜ s < 64 ⌝ }
+    ensures { λ r. ⌜ (r ≡ below otherwise s (λ d. getD (now (table .entry)) d 0) i) × ((otherwise < 256) → r < 256) ⌝ }
+{
+    if i < s {
+        number_of(table[i])
+    } else {
+        otherwise
+    }
 }
 
 // What a table of truth values has for i, if that is below s.

@@ -8,19 +8,19 @@ use crate::kinds::opens_loop;
 use crate::statements::kind_at;
 use layout::bytes::byte_at;
 use layout::lookup::flag_at;
-use layout::lookup::number_at;
 use layout::outcomes::require;
 use model::Access;
 use model::Outcome;
 use model::Refusal;
 ghost use mathlib.Core.Path.{_≡_};
-ghost use mathlib.Core.List.{List};
 ghost use Prim.Native.Nat.{ℕ, _/_, _<_, _≤_};
 ghost use lib.ListN.{length};
+ghost use Rattle.model.specs.Tests.{Is};
 ghost use Rattle.model.specs.Outcomes.{scan};
 ghost use Rattle.model.specs.Layout.{Plan, statementCount};
+ghost use Rattle.model.specs.Statements.{opens, loop};
 ghost use Rattle.model.specs.Parallel.{conflicts, parallelizable, loopCheck, reducesThroughPointer};
-ghost use Rattle.loops.specs.Loops.{Within, accessAt, LoopsKnown, apart, conflictFree, harmless, PointersKnown, pointerReduction};
+ghost use Rattle.loops.specs.Loops.{Within, accessAt, LoopsKnown, LoopSpan, apart, conflictFree, harmless, PointersKnown, pointerReduction};
 
 // What a statement accesses: how, which region, through a centered variable or not, and with which operator.
 pub struct LoopAccess {
@@ -33,17 +33,17 @@ pub struct LoopAccess {
 // The access of statement s.
 fn loop_access(
     statements: &[u8],
-    operands: &[usize],
-    variable_regions: &[usize],
+    operands: &[u8],
+    variable_regions: &[u8],
     centered: &[bool],
     s: usize,
 ) -> LoopAccess
     requires { ⌜ s < 64 ⌝ }
-    ensures { λ r. ⌜ ((P : Plan) (loops : List ℕ) → LoopsKnown P (now (statements .entry)) (now (operands .entry)) (now («variable_regions» .entry)) (now (centered .entry)) loops → s < statementCount P → r ≡ accessAt P s) ⌝ }
+    ensures { λ r. ⌜ ((P : Plan) → LoopsKnown P (now (statements .entry)) (now (operands .entry)) (now («variable_regions» .entry)) (now (centered .entry)) → s < statementCount P → r ≡ accessAt P s) ⌝ }
 {
-    let operand = number_at(operands, s);
+    let operand = byte_at(operands, s);
     let access = access_of(kind_at(statements, s));
-    let region = number_at(variable_regions, operand);
+    let region = byte_at(variable_regions, operand);
     let through_centered = flag_at(centered, operand);
     let operator = byte_at(statements, s * 4 + 3);
     LoopAccess {
@@ -66,53 +66,54 @@ fn conflict(a: LoopAccess, b: LoopAccess) -> bool
     (a.region == b.region) & (by_reduction | by_read)
 }
 
-// Whether access a leaves statement t alone: t stands in another loop than that of statement f, accesses nothing, or is not forbidden.
+// Where the loop that statement f opens ends: at the next statement that opens a loop, or past the last.
+fn loop_end(statements: &[u8], f: usize) -> usize
+    requires { ⌜ Within (now statements) f ⌝ }
+    ensures { λ r. ⌜ (r ≤ 64) × ((P : Plan) → P .statements ≡ now (statements .entry) → Is (opens P f) → LoopSpan P f r) ⌝ }
+{
+    let mut t = f + 1;
+    while t < statements.len() / 4 {
+        if opens_loop(kind_at(statements, t)) {
+            return t;
+        }
+        t += 1;
+    }
+    t
+}
+
+// Whether access a leaves statement t of its loop alone: t accesses nothing, or is not forbidden.
 fn is_apart(
     statements: &[u8],
-    operands: &[usize],
-    variable_regions: &[usize],
+    operands: &[u8],
+    variable_regions: &[u8],
     centered: &[bool],
-    loops: &[usize],
-    f: usize,
     a: LoopAccess,
     t: usize,
 ) -> bool
-    requires { ⌜ Within (now statements) t ⌝ }
-    ensures { λ r. ⌜ ((P : Plan) (s : ℕ) → LoopsKnown P (now (statements .entry)) (now (operands .entry)) (now («variable_regions» .entry)) (now (centered .entry)) (now (loops .entry)) → a ≡ accessAt P s → r ≡ apart P f s t) ⌝ }
+    requires { ⌜ t < 64 ⌝ }
+    ensures { λ r. ⌜ ((P : Plan) (s : ℕ) → LoopsKnown P (now (statements .entry)) (now (operands .entry)) (now («variable_regions» .entry)) (now (centered .entry)) → t < statementCount P → a ≡ accessAt P s → r ≡ apart P (loop P t) s t) ⌝ }
 {
-    if number_at(loops, t) != f {
-        return true;
-    }
     let b = loop_access(statements, operands, variable_regions, centered, t);
     let access = b.access;
     !is_access(access) | !conflict(a, b)
 }
 
-// Whether access a forbids no access of the loop that statement f opens.
+// Whether access a forbids no access of the loop from statement f to `end`.
 fn is_conflict_free(
     statements: &[u8],
-    operands: &[usize],
-    variable_regions: &[usize],
+    operands: &[u8],
+    variable_regions: &[u8],
     centered: &[bool],
-    loops: &[usize],
     f: usize,
+    end: usize,
     a: LoopAccess,
 ) -> bool
-    requires { ⌜ length (now statements) / 4 ≤ 64 ⌝ }
-    ensures { λ r. ⌜ ((P : Plan) (s : ℕ) → LoopsKnown P (now (statements .entry)) (now (operands .entry)) (now («variable_regions» .entry)) (now (centered .entry)) (now (loops .entry)) → a ≡ accessAt P s → r ≡ conflictFree P f s) ⌝ }
+    requires { ⌜ end ≤ 64 ⌝ }
+    ensures { λ r. ⌜ ((P : Plan) (s : ℕ) → LoopsKnown P (now (statements .entry)) (now (operands .entry)) (now («variable_regions» .entry)) (now (centered .entry)) → LoopSpan P f end → a ≡ accessAt P s → r ≡ conflictFree P f s) ⌝ }
 {
-    let mut t = 0;
-    while t < statements.len() / 4 {
-        if !is_apart(
-            statements,
-            operands,
-            variable_regions,
-            centered,
-            loops,
-            f,
-            a,
-            t,
-        ) {
+    let mut t = f;
+    while t < end {
+        if !is_apart(statements, operands, variable_regions, centered, a, t) {
             return false;
         }
         t += 1;
@@ -120,23 +121,20 @@ fn is_conflict_free(
     true
 }
 
-// Whether statement s leaves the loop that statement f opens parallelizable. Only an access through a variable
+// Whether statement s leaves its loop, from statement f to `end`, parallelizable. Only an access through a variable
 // that is not centered may forbid others.
 fn is_harmless(
     statements: &[u8],
-    operands: &[usize],
-    variable_regions: &[usize],
+    operands: &[u8],
+    variable_regions: &[u8],
     centered: &[bool],
-    loops: &[usize],
     f: usize,
+    end: usize,
     s: usize,
 ) -> bool
-    requires { ⌜ Within (now statements) s ⌝ }
-    ensures { λ r. ⌜ ((P : Plan) → LoopsKnown P (now (statements .entry)) (now (operands .entry)) (now («variable_regions» .entry)) (now (centered .entry)) (now (loops .entry)) → r ≡ harmless P f s) ⌝ }
+    requires { ⌜ (f ≤ s) × (s < end) × (end ≤ 64) ⌝ }
+    ensures { λ r. ⌜ ((P : Plan) → LoopsKnown P (now (statements .entry)) (now (operands .entry)) (now («variable_regions» .entry)) (now (centered .entry)) → LoopSpan P f end → r ≡ harmless P f s) ⌝ }
 {
-    if number_at(loops, s) != f {
-        return true;
-    }
     let a = loop_access(statements, operands, variable_regions, centered, s);
     let access = a.access;
     if !is_access(access) | a.centered {
@@ -145,40 +143,24 @@ fn is_harmless(
     if is_write(access) {
         return false;
     }
-    is_conflict_free(
-        statements,
-        operands,
-        variable_regions,
-        centered,
-        loops,
-        f,
-        a,
-    )
+    is_conflict_free(statements, operands, variable_regions, centered, f, end, a)
 }
 
-// Whether the loop that statement f opens is parallelizable.
+// Whether the loop from statement f to `end` is parallelizable.
 fn is_parallelizable(
     statements: &[u8],
-    operands: &[usize],
-    variable_regions: &[usize],
+    operands: &[u8],
+    variable_regions: &[u8],
     centered: &[bool],
-    loops: &[usize],
     f: usize,
+    end: usize,
 ) -> bool
-    requires { ⌜ length (now statements) / 4 ≤ 64 ⌝ }
-    ensures { λ r. ⌜ ((P : Plan) → LoopsKnown P (now (statements .entry)) (now (operands .entry)) (now («variable_regions» .entry)) (now (centered .entry)) (now (loops .entry)) → r ≡ parallelizable P f) ⌝ }
+    requires { ⌜ end ≤ 64 ⌝ }
+    ensures { λ r. ⌜ ((P : Plan) → LoopsKnown P (now (statements .entry)) (now (operands .entry)) (now («variable_regions» .entry)) (now (centered .entry)) → LoopSpan P f end → r ≡ parallelizable P f) ⌝ }
 {
-    let mut s = 0;
-    while s < statements.len() / 4 {
-        if !is_harmless(
-            statements,
-            operands,
-            variable_regions,
-            centered,
-            loops,
-            f,
-            s,
-        ) {
+    let mut s = f;
+    while s < end {
+        if !is_harmless(statements, operands, variable_regions, centered, f, end, s) {
             return false;
         }
         s += 1;
@@ -189,36 +171,35 @@ fn is_parallelizable(
 // The check of statement f: a loop that it opens is parallelizable.
 fn check_loop(
     statements: &[u8],
-    operands: &[usize],
-    variable_regions: &[usize],
+    operands: &[u8],
+    variable_regions: &[u8],
     centered: &[bool],
-    loops: &[usize],
     f: usize,
 ) -> Outcome
     requires { ⌜ Within (now statements) f ⌝ }
-    ensures { λ r. ⌜ ((P : Plan) → LoopsKnown P (now (statements .entry)) (now (operands .entry)) (now («variable_regions» .entry)) (now (centered .entry)) (now (loops .entry)) → r ≡ loopCheck P f) ⌝ }
+    ensures { λ r. ⌜ ((P : Plan) → LoopsKnown P (now (statements .entry)) (now (operands .entry)) (now («variable_regions» .entry)) (now (centered .entry)) → r ≡ loopCheck P f) ⌝ }
 {
     if !opens_loop(kind_at(statements, f)) {
         return Outcome::Pass;
     }
-    let parallel = is_parallelizable(statements, operands, variable_regions, centered, loops, f);
+    let end = loop_end(statements, f);
+    let parallel = is_parallelizable(statements, operands, variable_regions, centered, f, end);
     require(parallel, Refusal::NotParallelizable(f))
 }
 
 // The check of the loops, after section 4.
 pub fn check_loops(
     statements: &[u8],
-    operands: &[usize],
-    variable_regions: &[usize],
+    operands: &[u8],
+    variable_regions: &[u8],
     centered: &[bool],
-    loops: &[usize],
 ) -> Outcome
     requires { ⌜ length (now statements) / 4 ≤ 64 ⌝ }
-    ensures { λ r. ⌜ ((P : Plan) → LoopsKnown P (now (statements .entry)) (now (operands .entry)) (now («variable_regions» .entry)) (now (centered .entry)) (now (loops .entry)) → r ≡ scan (loopCheck P) 0 (statementCount P)) ⌝ }
+    ensures { λ r. ⌜ ((P : Plan) → LoopsKnown P (now (statements .entry)) (now (operands .entry)) (now («variable_regions» .entry)) (now (centered .entry)) → r ≡ scan (loopCheck P) 0 (statementCount P)) ⌝ }
 {
     let mut f = 0;
     while f < statements.len() / 4 {
-        match check_loop(statements, operands, variable_regions, centered, loops, f) {
+        match check_loop(statements, operands, variable_regions, centered, f) {
             Outcome::Pass => {}
             Outcome::Refuse(refusal) => return Outcome::Refuse(refusal),
         }
@@ -227,40 +208,30 @@ pub fn check_loops(
     Outcome::Pass
 }
 
-// Whether statement s is a reduction of the loop that statement f opens, through a variable that is not centered.
-fn is_pointer_reduction(
-    statements: &[u8],
-    operands: &[usize],
-    centered: &[bool],
-    loops: &[usize],
-    f: usize,
-    s: usize,
-) -> bool
-    requires { ⌜ Within (now statements) s ⌝ }
-    ensures { λ r. ⌜ ((P : Plan) → PointersKnown P (now (statements .entry)) (now (operands .entry)) (now (centered .entry)) (now (loops .entry)) → r ≡ pointerReduction P f s) ⌝ }
+// Whether statement s is a reduction through a variable that is not centered.
+fn is_pointer_reduction(statements: &[u8], operands: &[u8], centered: &[bool], s: usize) -> bool
+    requires { ⌜ s < 64 ⌝ }
+    ensures { λ r. ⌜ ((P : Plan) → PointersKnown P (now (statements .entry)) (now (operands .entry)) (now (centered .entry)) → s < statementCount P → r ≡ pointerReduction P (loop P s) s) ⌝ }
 {
-    if number_at(loops, s) != f {
-        return false;
-    }
     let access = access_of(kind_at(statements, s));
-    let operand = number_at(operands, s);
+    let operand = byte_at(operands, s);
     is_reduce(access) & !flag_at(centered, operand)
 }
 
 // Whether the loop that statement f opens reduces through a pointer.
 pub fn reduces_through_pointer(
     statements: &[u8],
-    operands: &[usize],
+    operands: &[u8],
     centered: &[bool],
-    loops: &[usize],
     f: usize,
 ) -> bool
-    requires { ⌜ length (now statements) / 4 ≤ 64 ⌝ }
-    ensures { λ r. ⌜ ((P : Plan) → PointersKnown P (now (statements .entry)) (now (operands .entry)) (now (centered .entry)) (now (loops .entry)) → r ≡ reducesThroughPointer P f) ⌝ }
+    requires { ⌜ Within (now statements) f ⌝ }
+    ensures { λ r. ⌜ ((P : Plan) → PointersKnown P (now (statements .entry)) (now (operands .entry)) (now (centered .entry)) → Is (opens P f) → r ≡ reducesThroughPointer P f) ⌝ }
 {
-    let mut s = 0;
-    while s < statements.len() / 4 {
-        if is_pointer_reduction(statements, operands, centered, loops, f, s) {
+    let end = loop_end(statements, f);
+    let mut s = f;
+    while s < end {
+        if is_pointer_reduction(statements, operands, centered, s) {
             return true;
         }
         s += 1;

@@ -4,6 +4,7 @@ use crate::kinds::kind_of;
 use crate::kinds::opens_loop;
 use crate::lookup::earlier_flag;
 use crate::lookup::earlier_number;
+use crate::lookup::number_of;
 use layout::bytes::byte_at;
 use layout::outcomes::and_then;
 use layout::outcomes::require;
@@ -13,14 +14,14 @@ use model::StatementKind;
 ghost use mathlib.Core.Path.{_≡_};
 ghost use Prim.Native.Nat.{_<_};
 ghost use lib.ListN.{getD};
-ghost use Rattle.model.specs.Tests.{Is, pick};
-ghost use Rattle.model.specs.Statements.{kind, opensLoop, definesVariable, operand, statementFormed, statementAgrees, statementCheck};
+ghost use Rattle.model.specs.Tests.{Is};
+ghost use Rattle.model.specs.Statements.{kind, definesVariable, operand, statementFormed, statementAgrees, statementCheck};
 ghost use Rattle.loops.specs.Tables.{loopParts, mapParts, statementParts, regionAt, centeredAt, variablesAfter, WorksOn, Before, Fits, Entered, StatementRead, StatementsRead};
 
 // The variables of a loop: how many there are, and the statement that defines each.
 pub struct Variables {
     pub count: usize,
-    pub definitions: [usize; 16],
+    pub definitions: [u8; 16],
 }
 
 // Before the first FOR there is none.
@@ -57,7 +58,7 @@ fn operand_at(statements: &[u8], s: usize) -> usize
 }
 
 // The statement that defines a variable; 0 for a number that no variable has.
-fn definition_of(variables: Variables, number: usize) -> usize
+fn definition_of(variables: Variables, number: usize) -> u8
     ensures { λ r. ⌜ r ≡ getD (variables .definitions) number 0 ⌝ }
 {
     if number < 16 {
@@ -136,16 +137,16 @@ fn check_statement(
 }
 
 // The region of the variable that statement s defines, given that of the variable it copies.
-fn variable_region(maps: &[u8], statements: &[u8], s: usize, copied: usize) -> usize
+fn variable_region(maps: &[u8], statements: &[u8], s: usize, copied: u8) -> u8
     requires { ⌜ s < 64 ⌝ }
     ensures { λ r. ⌜ r ≡ regionAt (mapParts (now (maps .entry)) (now (statements .entry))) s (λ d. copied) ⌝ }
 {
     let a = byte_at(statements, s * 4 + 1);
     let target = byte_at(maps, a * 3 + 1);
     match kind_at(statements, s) {
-        StatementKind::For => a,
-        StatementKind::Load => target,
-        StatementKind::Call => target,
+        StatementKind::For => a as u8,
+        StatementKind::Load => target as u8,
+        StatementKind::Call => target as u8,
         StatementKind::Copy => copied,
         StatementKind::Read => 0,
         StatementKind::Write => 0,
@@ -172,7 +173,7 @@ fn is_centered(statements: &[u8], s: usize, copied: bool) -> bool
 }
 
 // The variables after a statement: a FOR's own is the first, a definition's the next.
-fn variables_after(variables: Variables, kind: StatementKind, s: usize) -> Variables
+fn variables_after(variables: Variables, kind: StatementKind, s: u8) -> Variables
     requires { ⌜ (Is (definesVariable kind) → variables .count < 16) ⌝ }
     ensures { λ r. ⌜ r ≡ variablesAfter kind s variables ⌝ }
 {
@@ -190,13 +191,6 @@ fn variables_after(variables: Variables, kind: StatementKind, s: usize) -> Varia
     after
 }
 
-// The FOR of the loop in which statement s stands, given that of the statement before.
-fn loop_of(kind: StatementKind, s: usize, before: usize) -> usize
-    ensures { λ r. ⌜ r ≡ pick (opensLoop kind) s before ⌝ }
-{
-    if opens_loop(kind) { s } else { before }
-}
-
 // The check of statement s, which is first entered into the tables.
 fn read_statement(
     regions: &[u8],
@@ -204,42 +198,38 @@ fn read_statement(
     statements: &[u8],
     s: usize,
     variables: Variables,
-    opened: usize,
-    operands: &mut [usize; 64],
-    variable_regions: &mut [usize; 64],
+    operands: &mut [u8; 64],
+    variable_regions: &mut [u8; 64],
     centered: &mut [bool; 64],
-    loops: &mut [usize; 64],
 ) -> Outcome
-    requires { ⌜ Entered (loopParts (now regions) (now maps) (now statements)) s variables opened (now operands) (now «variable_regions») (now centered) (now loops) ⌝ }
-    ensures { λ r. ⌜ StatementRead (loopParts (now (regions .entry)) (now (maps .entry)) (now (statements .entry))) s r (now (operands .exit)) (now («variable_regions» .exit)) (now (centered .exit)) (now (loops .exit)) ⌝ }
+    requires { ⌜ Entered (loopParts (now regions) (now maps) (now statements)) s variables (now operands) (now «variable_regions») (now centered) ⌝ }
+    ensures { λ r. ⌜ StatementRead (loopParts (now (regions .entry)) (now (maps .entry)) (now (statements .entry))) s r (now (operands .exit)) (now («variable_regions» .exit)) (now (centered .exit)) ⌝ }
 {
-    let operand = definition_of(variables, operand_at(statements, s));
-    operands[s] = operand;
-    let copied_region = earlier_number(variable_regions, s, operand, 0);
+    let defined = definition_of(variables, operand_at(statements, s));
+    operands[s] = defined;
+    let operand = defined as usize;
+    let copied_region = earlier_number(variable_regions, s, operand, 0) as u8;
     variable_regions[s] = variable_region(maps, statements, s, copied_region);
     let copied_centered = earlier_flag(centered, s, operand);
     centered[s] = is_centered(statements, s, copied_centered);
-    loops[s] = loop_of(kind_at(statements, s), s, opened);
-    let region = variable_regions[operand];
+    let region = number_of(variable_regions[operand]);
     check_statement(regions, maps, statements, s, variables.count, region)
 }
 
 // The check of section 4. The tables take, for each statement, the definition of the variable that it works on,
-// the region of the variable that it defines, whether that one is centered, and the FOR of its loop.
+// the region of the variable that it defines, and whether that one is centered.
 pub fn check_statements(
     regions: &[u8],
     maps: &[u8],
     statements: &[u8],
-    operands: &mut [usize; 64],
-    variable_regions: &mut [usize; 64],
+    operands: &mut [u8; 64],
+    variable_regions: &mut [u8; 64],
     centered: &mut [bool; 64],
-    loops: &mut [usize; 64],
 ) -> Outcome
-    requires { ⌜ Fits (now statements) (now operands) (now «variable_regions») (now centered) (now loops) ⌝ }
-    ensures { λ r. ⌜ StatementsRead (loopParts (now (regions .entry)) (now (maps .entry)) (now (statements .entry))) r (now (operands .exit)) (now («variable_regions» .exit)) (now (centered .exit)) (now (loops .exit)) ⌝ }
+    requires { ⌜ Fits (now statements) (now operands) (now «variable_regions») (now centered) ⌝ }
+    ensures { λ r. ⌜ StatementsRead (loopParts (now (regions .entry)) (now (maps .entry)) (now (statements .entry))) r (now (operands .exit)) (now («variable_regions» .exit)) (now (centered .exit)) ⌝ }
 {
     let mut variables = NO_VARIABLES;
-    let mut opened = 0;
     let mut s = 0;
     while s < statements.len() / 4 {
         match read_statement(
@@ -248,18 +238,15 @@ pub fn check_statements(
             statements,
             s,
             variables,
-            opened,
             operands,
             variable_regions,
             centered,
-            loops,
         ) {
             Outcome::Pass => {}
             Outcome::Refuse(refusal) => return Outcome::Refuse(refusal),
         }
         let kind = kind_at(statements, s);
-        opened = loop_of(kind, s, opened);
-        variables = variables_after(variables, kind, s);
+        variables = variables_after(variables, kind, s as u8);
         s += 1;
     }
     Outcome::Pass

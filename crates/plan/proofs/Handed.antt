@@ -6,7 +6,7 @@ use mathlib.Core.List.{List, []}
 use mathlib.Core.Bool.{Bool}
 use lib.ListN.{getD}
 use Rattle.model.specs.Bytes.{Bytes}
-use Rattle.model.specs.Layout.{Plan, nodeCount, statementCount}
+use Rattle.model.specs.Layout.{Plan, nodeCount, stepCount}
 use Rattle.model.specs.Statements.{kind, opens, defines, accesses, loopBefore, variables, definition, operandBy, operand, operandDefinition, regionBy, variableRegion, centeredBy, centered, statementFormedBy, statementFormed, statementAgreesBy, statementAgrees, statementCheck}
 use Rattle.model.specs.Parallel.{reads, writes, reduces, uncentered, accessOfLoop, sameTarget, conflicts, parallelizable, loopCheck, reducesThroughPointer}
 use Rattle.model.specs.Nodes.{nodeFormedRows, nodeFormed, nodeRegionRows, nodeRegionStep, nodeRegion, nodeAgreesRows, nodeAgrees, sameNode, duplicateNode, nodeCheck}
@@ -15,11 +15,14 @@ use Rattle.model.specs.Needs.{hasSymbol, symbol, symbolRegion, assignmentCountC
 use Rattle.model.specs.Verdict.{regionCheck, mapCheck, suppliedCheck}
 use Rattle.layout.specs.Parts.{parts}
 use Rattle.model.specs.Outcomes.{_then_, scan}
-use Rattle.plan.specs.Needs.{needParts, NeedsKnown}
-use Rattle.loops.specs.Tables.{StatementTables, statementParts}
-use Rattle.expressions.specs.Steps.{stepsCheck}
+use Rattle.plan.specs.Needs.{NeedsKnown}
+use Rattle.loops.specs.Tables.{StatementTables}
+use Rattle.expressions.specs.declared.nodes.CheckedNodes.{CheckedNodes}
+use Rattle.expressions.specs.Nodes.{NodesChecked}
+use Rattle.model.specs.declared.Outcome.the-variants.{Pass}
+use Rattle.expressions.specs.Steps.{stepsCheck, Concluded}
 use Rattle.layout.specs.Declarations.{regionsCheck, mapsCheck, partitionsCheck}
-use Rattle.plan.specs.Sections.{needsCheck, StatementsKnown, NodesKnown, statementsCheck, loopsCheck, nodesCheck, fromAssignments}
+use Rattle.plan.specs.Sections.{StatementsKnown, NodesKnown, StepsReady, statementsCheck, loopsCheck, nodesCheck, fromAssignments}
 
 module _ (regions maps supplied statements nodes assignments steps : Bytes) where
   abbrev whole : Plan
@@ -55,49 +58,53 @@ module _ (regions maps supplied statements nodes assignments steps : Bytes) wher
   unfolding kind opens defines accesses loopBefore variables definition operandBy operand operandDefinition regionBy variableRegion centeredBy centered reduces uncentered accessOfLoop reducesThroughPointer nodeRegionRows nodeRegionStep nodeRegion concludesSubset concludesDisjoint concludesComplete operandOf licences licence stepFormed stepLicensed stepCheck hasSymbol symbol symbolRegion assignmentCountCheck assignmentCheck imageNode boundBy bound loopNeedsMet accessNeedMet needCheck
   assignments-handed = refl
 
-  pub needs-handed :
-      scan (needCheck (needParts statements nodes assignments steps)) 0 (statementCount (statementParts statements)) ≡ needsCheck whole
-  unfolding kind opens defines accesses loopBefore variables definition operandBy operand operandDefinition centeredBy centered reduces uncentered accessOfLoop reducesThroughPointer concludesSubset concludesDisjoint concludesComplete hasSymbol symbol imageNode boundBy bound loopNeedsMet accessNeedMet needCheck
-  needs-handed = refl
-
   -- what is known of the tables
-  module _ {operands variableRegions : List ℕ} {centers : List Bool} {loops : List ℕ} where
+  module _ {operands variableRegions : List ℕ} {centers : List Bool} where
     pub tables-handed : {n : ℕ} →
-        StatementTables (parts regions maps [] statements [] [] []) n operands variableRegions centers loops →
-        StatementTables whole n operands variableRegions centers loops
+        StatementTables (parts regions maps [] statements [] [] []) n operands variableRegions centers →
+        StatementTables whole n operands variableRegions centers
     unfolding kind opens defines loopBefore variables definition operandBy operand operandDefinition regionBy variableRegion centeredBy centered
     tables-handed known =
         record {
           operands-are = known .operands-are;
           regions-are = known .regions-are;
           centers-are = known .centers-are;
-          loops-are = known .loops-are;
         }
 
-    pub nodes-known : {nodeRegions : List ℕ} →
-        StatementsKnown whole operands variableRegions centers loops →
-        ((j : ℕ) → j < nodeCount whole → getD nodeRegions j 0 ≡ nodeRegion (parts regions maps supplied [] nodes [] []) j) →
-        NodesKnown (parts [] maps supplied statements nodes assignments steps) operands variableRegions centers loops nodeRegions
+    pub nodes-known : {checked : CheckedNodes} → checked .outcome ≡ Pass →
+        NodesChecked (parts regions maps supplied [] nodes [] []) checked →
+        StatementsKnown whole operands variableRegions centers →
+        NodesKnown (parts [] maps supplied statements nodes assignments steps) operands variableRegions centers (checked .regions) (checked .numbers)
     unfolding kind opens defines loopBefore variables definition operandBy operand operandDefinition regionBy variableRegion centeredBy centered nodeRegionRows nodeRegionStep nodeRegion
-    nodes-known known node-regions =
-        record {
-          few-statements = known .limits .few-statements;
-          statement-tables =
-              record {
-                operands-are = known .statement-tables .operands-are;
-                regions-are = known .statement-tables .regions-are;
-                centers-are = known .statement-tables .centers-are;
-                loops-are = known .statement-tables .loops-are;
-              };
-          node-regions = node-regions;
-        }
-
-    pub needs-known : {nodeRegions : List ℕ} →
-        NodesKnown whole operands variableRegions centers loops nodeRegions → NeedsKnown statements operands centers loops
-    unfolding kind opens defines loopBefore variables definition operandBy operand operandDefinition centeredBy centered
-    needs-known known =
+    nodes-known pass read known =
+        let limits = known .limits in
         let tables = known .statement-tables in
         record {
-          few = known .few-statements;
-          pointers = record { section = refl; operands-are = tables .operands-are; centers-are = tables .centers-are; loops-are = tables .loops-are };
+          few = record { few-statements = limits .few-statements; few-nodes = limits .few-nodes; few-steps = limits .few-steps };
+          statement-tables = record { operands-are = tables .operands-are; regions-are = tables .regions-are; centers-are = tables .centers-are };
+          node-regions = read .regions pass;
+          numbered = record { count-is = refl; numbers-are = read .numbers pass };
         }
+
+  -- what the needs are settled with
+  pub needs-known : {operands numbers conclusions : List ℕ} {centers : List Bool} → StepsReady whole operands centers numbers →
+      Concluded (parts [] maps supplied [] nodes [] steps) (stepCount whole) conclusions →
+      NeedsKnown whole statements assignments operands centers numbers (nodeCount whole) conclusions (stepCount whole)
+  unfolding concludesSubset concludesDisjoint concludesComplete
+  needs-known ready told =
+      record {
+        sources =
+            record {
+              bounds = record { statements-are = refl; assignments-are = refl; numbered = ready .numbered };
+              pointers = ready .pointers;
+            };
+        steps-are = refl;
+        concluded =
+            record {
+              room = told .room;
+              subsets = told .subsets;
+              disjoints = told .disjoints;
+              completes = told .completes;
+              small = told .small;
+            };
+      }

@@ -1,58 +1,56 @@
 -- The needs as they are listed, two of each statement, are settled as the definition checks them. Assumes nothing.
-use Prim.Native.Nat.{ℕ, zero, suc, _+_, _*_, _≤_, _<_}
+use Prim.Native.Nat.{ℕ, zero, suc, _+_, _*_, _/_, _≤_, _<_}
 use native.Mathlib.Omega.{arith}
-use mathlib.Core.Path.{_≡_, refl, fun-ext}
+use mathlib.Core.Path.{_≡_, refl, sym, _∙_}
 use mathlib.Core.Logic.{inr}
 use mathlib.Core.Bool.{Bool, true, false, and-true}
-use mathlib.Core.List.{List, []}
+use mathlib.Core.List.{List}
 use lib.ListN.{getD}
-use Rattle.model.specs.Tests.{Is, _and_, _or_, non, any, pick, _<?_}
-use Rattle.model.specs.Bytes.{Bytes}
-use Rattle.model.specs.Outcomes.{require, _then_, scan}
+use lib.Dec.{eqb}
+use borrow.Author.Tests.{ne-eqb}
+use Rattle.model.specs.Tests.{Is, _and_, _or_, non, any, pick, _<?_, _==_}
 use Rattle.model.specs.Layout.{Plan, statementCount, nodeCount, stepCount}
-use Rattle.model.specs.Statements.{kind, opensLoop, accessOf, isAccess, opens, defines, accesses, loopBefore, variables, definition, operandBy, operand, operandDefinition, centeredBy, centered}
-use Rattle.model.specs.Parallel.{reduces, uncentered, accessOfLoop, reducesThroughPointer}
+use Rattle.model.specs.Statements.{kind, opensLoop, accessOf, isAccess, opens, accesses}
+use Rattle.model.specs.Parallel.{reducesThroughPointer}
 use Rattle.model.specs.Lemmas.{concludesSubset, concludesDisjoint, concludesComplete}
-use Rattle.model.specs.Needs.{hasSymbol, symbol, imageNode, boundBy, bound, operandBound, loopNeedsMet, accessNeedMet, needCheck}
+use Rattle.model.specs.Needs.{symbolNode, symbol, operandBound, loopNeedsMet, accessNeedMet, needCheck}
 use Rattle.model.specs.declared.StatementKind.{StatementKind}
 use Rattle.model.specs.declared.StatementKind.the-variants.{For, Load, Call, Copy, Read, Write, Reduce, Unknown}
+use Rattle.model.specs.Outcomes.{require, _then_, scan}
 use Rattle.model.specs.declared.Outcome.{Outcome}
 use Rattle.model.specs.declared.Refusal.{Refusal}
 use Rattle.model.specs.declared.Outcome.the-variants.{Pass, Refuse}
 use Rattle.model.specs.declared.Refusal.the-variants.{UnmetNeed}
-use Rattle.model.proofs.Tests.{falsum, one}
+use Rattle.model.proofs.Tests.{falsum, one, less}
 use Rattle.model.proofs.Outcomes.{required}
-use Rattle.loops.specs.Tables.{statementParts}
-use Rattle.plan.specs.Needs.{needParts, stepParts, noNeed, firstClaim, secondClaim, firstNeed, secondNeed, Listed, isWanted, concludedBy, isMet, settled}
-use Rattle.plan.specs.declared.needs.Claim.{Claim}
-use Rattle.plan.specs.declared.needs.Claim.the-variants.{Nothing, Complete, Disjoint, Subset, Unlisted}
-use Rattle.plan.specs.declared.needs.Need.{Need}
+use Rattle.plan.specs.Needs.{NOTHING, UNLISTED, firstClaim, secondClaim, Listed, settled}
+use Rattle.expressions.specs.Steps.{subsetNumber, disjointNumber, completeNumber, Concluded}
+use Rattle.plan.proofs.Stages.{then-assoc}
 use Rattle.plan.specs.declared.needs.Found.{Found}
 use Rattle.plan.specs.declared.needs.Found.the-variants.{At, Nowhere}
-use Rattle.plan.proofs.Stages.{then-assoc}
 
 -- whether a search over the steps found one
 unfoldable pub isFound : Found → Bool
 isFound (At t) = true
 isFound Nowhere = false
 
--- need i, which asks for nothing, or which a step concludes, or which none concludes
-module _ (P : Plan) (needs : List Need) (i : ℕ) where
-  pub not-wanted : isWanted (getD needs i noNeed .claim) ≡ false → settled P needs i ≡ Pass
-  unfolding settled isMet require non _or_
+-- claim i, which asks for nothing, or which a step concludes, or which none concludes
+module _ (claims symbols conclusions : List ℕ) (steps i : ℕ) where
+  pub not-wanted : Is (getD claims i 0 == NOTHING) → settled claims symbols conclusions steps i ≡ Pass
+  unfolding settled require _or_
   not-wanted h = rw h
 
-  pub concluded : Is (any (stepCount P) (concludedBy P (getD needs i noNeed .claim))) → settled P needs i ≡ Pass
-  unfolding settled isMet
+  pub concluded : Is (any steps (λ t. getD conclusions t 0 == getD claims i 0)) → settled claims symbols conclusions steps i ≡ Pass
+  unfolding settled
   concluded h = required _ _ (one (inr h))
 
-  pub unmet : Is (isWanted (getD needs i noNeed .claim)) → any (stepCount P) (concludedBy P (getD needs i noNeed .claim)) ≡ false
-      → settled P needs i ≡ Refuse (UnmetNeed (getD needs i noNeed .symbol))
-  unfolding settled isMet require non _or_
+  pub unmet : (getD claims i 0 == NOTHING) ≡ false → any steps (λ t. getD conclusions t 0 == getD claims i 0) ≡ false
+      → settled claims symbols conclusions steps i ≡ Refuse (UnmetNeed (getD symbols (i / 2) 0))
+  unfolding settled require _or_
   unmet w h = rw (w, h)
 
 -- two checks of each statement in a row are one
-pub scan-pairs : (f g : ℕ → Outcome) (k n : ℕ) → ((s : ℕ) → k ≤ s → s < k + n → (g (s * 2) then g (s * 2 + 1)) ≡ f s)
+scan-pairs : (f g : ℕ → Outcome) (k n : ℕ) → ((s : ℕ) → k ≤ s → s < k + n → (g (s * 2) then g (s * 2 + 1)) ≡ f s)
     → scan g (k * 2) (n * 2) ≡ scan f k n
 unfolding scan
 scan-pairs f g k zero h = refl
@@ -79,58 +77,74 @@ opens-only Write e = falsum e
 opens-only Reduce e = falsum e
 opens-only Unknown e = falsum e
 
--- no step concludes SUB of a bound that is not listed
-none-concludes : (P : Plan) (n : ℕ) → any n (concludedBy P Unlisted) ≡ false
-unfolding any concludedBy _or_
-none-concludes P zero = refl
-none-concludes P (suc n) = rw (none-concludes P n)
+-- a search by tests that agree
+any-same : (n : ℕ) (f g : ℕ → Bool) → ((t : ℕ) → t < n → f t ≡ g t) → any n f ≡ any n g
+unfolding any
+any-same zero f g h = refl
+any-same (suc n) f g h = rw (any-same n f g (λ t lt. h t (omega arith)), h n (omega arith))
 
--- the two needs of a statement are met where the definition's are
-module _ (P : Plan) (s : ℕ) where
-  both-met : (isMet P (firstNeed P s .claim) and isMet P (secondNeed P s .claim))
-      ≡ ((non (opens P s) or loopNeedsMet P s) and (non (accesses P s) or accessNeedMet P s))
-  unfolding firstNeed firstClaim secondNeed secondClaim isMet isWanted concludedBy loopNeedsMet accessNeedMet opens accesses pick non _or_ _and_
-  both-met =
-      go (opens P s) (accesses P s) (reducesThroughPointer P s) (operandBound P s <? nodeCount P) refl refl refl refl
+any-none : (n : ℕ) (f : ℕ → Bool) → ((t : ℕ) → t < n → f t ≡ false) → any n f ≡ false
+unfolding any _or_
+any-none zero f h = refl
+any-none (suc n) f h = rw (any-none n f (λ t lt. h t (omega arith)), h n (omega arith))
+
+module _ (P : Plan) {conclusions : List ℕ} (known : Concluded P (stepCount P) conclusions) where
+  -- whether a claim is met by what the steps conclude
+  unfoldable isMet : ℕ → Bool
+  isMet claim = claim == NOTHING or any (stepCount P) (λ t. getD conclusions t 0 == claim)
+
+  asked : (claim : ℕ) {f : ℕ → Bool} → claim < 196608 → ((t : ℕ) → t < stepCount P → (getD conclusions t 0 == claim) ≡ f t)
+      → isMet claim ≡ any (stepCount P) f
+  unfolding isMet _==_ _or_
+  asked claim {f} small h = rw (ne-eqb claim NOTHING (λ e. omega arith), any-same (stepCount P) _ f h)
+
+  nothing-asked : isMet NOTHING ≡ true
+  unfolding isMet _==_ _or_
+  nothing-asked = refl
+
+  unlisted : isMet UNLISTED ≡ false
+  unfolding isMet _==_ _or_
+  unlisted =
+      rw (any-none (stepCount P) (λ t. getD conclusions t 0 == UNLISTED) (λ t lt. ne-eqb (getD conclusions t 0) UNLISTED (λ e. omega (arith, known .small t lt))))
+
+  complete-met : (x : ℕ) → x < 256 → isMet (completeNumber x) ≡ any (stepCount P) (λ t. concludesComplete P t x)
+  complete-met x small = asked _ (omega arith) (λ t lt. known .completes t lt x small)
+
+  disjoint-met : (x : ℕ) → x < 256 → isMet (disjointNumber x) ≡ any (stepCount P) (λ t. concludesDisjoint P t x)
+  disjoint-met x small = asked _ (omega arith) (λ t lt. known .disjoints t lt x small)
+
+  subset-met : (x y : ℕ) → x < 256 → y < 256 → isMet (subsetNumber x y) ≡ any (stepCount P) (λ t. concludesSubset P t x y)
+  subset-met x y small-x small-y = asked _ (omega arith) (λ t lt. known .subsets t lt x y small-x small-y)
+
+  -- the two needs of a statement are met where the definition's are
+  module _ (few : nodeCount P ≤ 48) (s : ℕ) (small : symbolNode P s < 256) where
+    both-met : (isMet (firstClaim (kind P s) (symbolNode P s) (operandBound P s) (nodeCount P))
+        and isMet (secondClaim (opens P s and reducesThroughPointer P s) (symbolNode P s)))
+        ≡ ((non (opens P s) or loopNeedsMet P s) and (non (accesses P s) or accessNeedMet P s))
+    unfolding firstClaim secondClaim loopNeedsMet accessNeedMet opens accesses pick non _or_ _and_
+    both-met =
+        go (opens P s) (accesses P s) (reducesThroughPointer P s) (operandBound P s <? nodeCount P) refl refl refl refl
+      where
+        go : (o a r b : Bool) → opens P s ≡ o → accesses P s ≡ a → reducesThroughPointer P s ≡ r → (operandBound P s <? nodeCount P) ≡ b
+            → (isMet (firstClaim (kind P s) (symbolNode P s) (operandBound P s) (nodeCount P))
+            and isMet (secondClaim (opens P s and reducesThroughPointer P s) (symbolNode P s)))
+            ≡ ((non (opens P s) or loopNeedsMet P s) and (non (accesses P s) or accessNeedMet P s))
+        go true a true b o e p q = rw (o, opens-only _ o, p, complete-met _ small, disjoint-met _ small, and-true)
+        go true a false b o e p q = rw (o, opens-only _ o, p, complete-met _ small, nothing-asked, and-true, and-true)
+        go false true r true o e p q = let bound : operandBound P s < 256 = omega (arith, less q) in rw (o, e, q, subset-met _ _ bound small, nothing-asked, and-true)
+        go false true r false o e p q = rw (o, e, q, unlisted)
+        go false false r b o e p q = rw (o, e, nothing-asked)
+
+  -- all needs
+  pub all-settled : nodeCount P ≤ 48 → {claims symbols : List ℕ} → Listed P (statementCount P) claims symbols
+      → scan (settled claims symbols conclusions (stepCount P)) 0 (statementCount P * 2) ≡ scan (needCheck P) 0 (statementCount P)
+  unfolding settled needCheck isMet
+  all-settled few {claims} {symbols} l = scan-pairs (needCheck P) (settled claims symbols conclusions (stepCount P)) 0 (statementCount P) two
     where
-      go : (o a r b : Bool) → opens P s ≡ o → accesses P s ≡ a → reducesThroughPointer P s ≡ r → (operandBound P s <? nodeCount P) ≡ b
-          → (isMet P (firstNeed P s .claim) and isMet P (secondNeed P s .claim))
-          ≡ ((non (opens P s) or loopNeedsMet P s) and (non (accesses P s) or accessNeedMet P s))
-      go true a true b o e p q = rw (o, opens-only _ o, p, and-true)
-      go true a false b o e p q = rw (o, opens-only _ o, p, and-true, and-true)
-      go false true r true o e p q = rw (o, e, q, and-true)
-      go false true r false o e p q = rw (o, e, q, none-concludes)
-      go false false r b o e p q = rw (o, e)
-
-  two-settled : (needs : List Need) → getD needs (s * 2) noNeed ≡ firstNeed P s → getD needs (s * 2 + 1) noNeed ≡ secondNeed P s
-      → (settled P needs (s * 2) then settled P needs (s * 2 + 1)) ≡ needCheck P s
-  unfolding settled firstNeed secondNeed needCheck
-  two-settled needs f g = rw (f, g, require-both, both-met)
-
--- all needs
-pub all-settled : (P : Plan) {needs : List Need} → Listed P (statementCount P) needs
-    → scan (settled P needs) 0 (statementCount P * 2) ≡ scan (needCheck P) 0 (statementCount P)
-all-settled P {needs} l =
-    scan-pairs (needCheck P) (settled P needs) 0 (statementCount P) (λ s a lt. two-settled P s needs (l .first-are s (omega arith)) (l .second-are s (omega arith)))
-
--- the needs are listed without the steps, and settled with nothing but the steps
-module _ (statements nodes assignments steps : Bytes) where
-  concluded-from : (claim : Claim) (t : ℕ) → concludedBy (stepParts steps) claim t ≡ concludedBy (needParts statements nodes assignments steps) claim t
-  unfolding concludesSubset concludesDisjoint concludesComplete concludedBy
-  concluded-from Nothing t = refl
-  concluded-from (Complete x) t = refl
-  concluded-from (Disjoint x) t = refl
-  concluded-from (Subset x y) t = refl
-  concluded-from Unlisted t = refl
-
-  settled-from : (needs : List Need) (i : ℕ) → settled (stepParts steps) needs i ≡ settled (needParts statements nodes assignments steps) needs i
-  unfolding isMet settled
-  settled-from needs i = rw (fun-ext (concluded-from (getD needs i noNeed .claim)))
-
-  pub handed-settled : {needs : List Need} → Listed (needParts statements nodes assignments []) (statementCount (statementParts statements)) needs
-      → scan (settled (stepParts steps) needs) 0 (statementCount (statementParts statements) * 2)
-      ≡ scan (needCheck (needParts statements nodes assignments steps)) 0 (statementCount (statementParts statements))
-  unfolding kind opens defines accesses loopBefore variables definition operandBy operand operandDefinition centeredBy centered reduces uncentered accessOfLoop reducesThroughPointer hasSymbol symbol imageNode boundBy bound firstNeed secondNeed
-  handed-settled {needs} l =
-      rw (fun-ext (settled-from needs))
-      (all-settled (needParts statements nodes assignments steps) {needs = needs} (record { room = l .room; first-are = l .first-are; second-are = l .second-are }))
+      two : (s : ℕ) → 0 ≤ s → s < 0 + statementCount P
+          → (settled claims symbols conclusions (stepCount P) (s * 2) then settled claims symbols conclusions (stepCount P) (s * 2 + 1)) ≡ needCheck P s
+      two s a lt =
+          let even : s * 2 / 2 ≡ s = omega arith in
+          let odd : (s * 2 + 1) / 2 ≡ s = omega arith in
+          let inside : s < statementCount P = omega arith in
+          rw (even, odd, l .symbols-are s inside, l .first-are s inside, l .second-are s inside, require-both, both-met few s (l .small-nodes s inside))

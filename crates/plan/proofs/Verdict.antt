@@ -1,6 +1,6 @@
 -- The verdict of a plan from its layout and its records. Assumes nothing.
 use Prim.Native.Nat.{ℕ, _+_}
-use mathlib.Core.Path.{_≡_, sym, _∙_, ap, subst⁻¹}
+use mathlib.Core.Path.{_≡_, refl, sym, _∙_, ap, subst⁻¹}
 use Rattle.model.specs.Bytes.{Bytes, part, boundary, body}
 use Rattle.model.specs.Outcomes.{_then_, conclude}
 use Rattle.model.specs.Layout.{Plan, planOf, layoutCheck, assignmentCount, nodeCount, stepCount}
@@ -10,6 +10,7 @@ use Rattle.model.specs.AcceptedPlans.{Limits}
 use Rattle.model.specs.declared.Refusal.{Refusal}
 use Rattle.model.specs.declared.Outcome.{Outcome}
 use Rattle.model.specs.declared.Outcome.the-variants.{Pass, Refuse}
+use Rattle.model.specs.declared.Answer.{Answer}
 use Rattle.model.specs.declared.Answer.the-variants.{Accepted, Refused}
 use Rattle.model.proofs.Tests.{same}
 use Rattle.model.proofs.Outcomes.{then-pass, require-pass, conclude-accepted}
@@ -55,22 +56,24 @@ decided : (p : Bytes) → layoutCheck p ≡ Pass → verdict p ≡ conclude (rec
 unfolding verdict planCheck _then_
 decided p h = rw h
 
--- by the outcome of the records, as their check gave it and as it was taken
+-- by the outcome of the records, as their check gave it
 module _ (p : Bytes) (frame : Frame) (known : Laid p frame) {o : Outcome} (checked : o ≡ recordsCheck (cut p frame)) where
   records : o ≡ recordsCheck (planOf p)
   records = checked ∙ ap recordsCheck (cut-plan p frame (known .places))
 
-  pub plan-accepted : o ≡ Pass →
-      Accepted (assignmentCount (cut p frame)) (nodeCount (cut p frame)) (stepCount (cut p frame)) ≡ verdict p
-  unfolding conclude
-  plan-accepted pass =
-      let passes = sym records ∙ pass in
-      subst⁻¹ (λ P. Accepted (assignmentCount P) (nodeCount P) (stepCount P) ≡ verdict p) (cut-plan p frame (known .places))
-      (rw (decided p (known .passes), passes, symbols-assigned (planOf p) passes))
+  abbrev counted : Plan → Answer
+  counted P = Accepted (assignmentCount P) (nodeCount P) (stepCount P)
 
-  pub plan-refused : {r : Refusal} → o ≡ Refuse r → Refused r ≡ verdict p
+  pub plan-concluded : conclude o (counted (cut p frame)) ≡ verdict p
   unfolding conclude
-  plan-refused refused = rw (decided p (known .passes), sym records ∙ refused)
+  plan-concluded = by o refl
+    where
+      by : (x : Outcome) → o ≡ x → conclude x (counted (cut p frame)) ≡ verdict p
+      by Pass pass =
+          let passes = sym records ∙ pass in
+          subst⁻¹ (λ P. counted P ≡ verdict p) (cut-plan p frame (known .places))
+          (rw (decided p (known .passes), passes, symbols-assigned (planOf p) passes))
+      by (Refuse r) refused = rw (decided p (known .passes), sym records ∙ refused)
 
 pub layout-refused : (p : Bytes) {r : Refusal} → layoutCheck p ≡ Refuse r → Refused r ≡ verdict p
 unfolding verdict planCheck _then_ conclude

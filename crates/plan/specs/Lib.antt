@@ -1,4 +1,4 @@
-pub mod Reading
-pub mod Sections
 pub mod Symbols
 pub mod Needs
+pub mod Sections
+pub mod Reading

@@ -1,102 +1,108 @@
--- "Needs" as the checker settles them: two claims of each statement, listed in order, and the steps searched for each.
+-- "Needs" as the checker settles them: two claims of each statement, listed in order as numbers, and the steps searched for each.
 use Prim.Native.Nat.{ℕ, _+_, _*_, _/_, _≤_, _<_}
 use mathlib.Core.Path.{_≡_}
-use mathlib.Core.Bool.{Bool, true, false}
-use mathlib.Core.List.{List, []}
+use mathlib.Core.Bool.{Bool}
+use mathlib.Core.List.{List}
 use lib.ListN.{getD, length}
-use Rattle.model.specs.Tests.{_and_, _or_, non, any, pick, _==_, _<?_}
+use Rattle.model.specs.Tests.{_and_, _or_, any, pick, _==_, _<?_}
 use Rattle.model.specs.Bytes.{Bytes}
 use Rattle.model.specs.Outcomes.{require}
 use Rattle.model.specs.Layout.{Plan, nodeCount, nodeKind, nodeA, nodeB, stepCount}
 use Rattle.model.specs.Statements.{kind, opensLoop, accessOf, isAccess, opens}
 use Rattle.model.specs.Parallel.{reducesThroughPointer}
-use Rattle.model.specs.Nodes.{IMAGE}
-use Rattle.model.specs.Lemmas.{concludesSubset, concludesDisjoint, concludesComplete}
 use Rattle.model.specs.Needs.{symbol, symbolNode, boundBy, operandBound}
 use Rattle.model.specs.declared.StatementKind.{StatementKind}
 use Rattle.model.specs.declared.Outcome.{Outcome}
 use Rattle.model.specs.declared.Refusal.the-variants.{UnmetNeed}
-use Rattle.layout.specs.Parts.{parts}
-use Rattle.loops.specs.Tables.{statementParts}
 use Rattle.loops.specs.Loops.{PointersKnown}
-use Rattle.plan.specs.declared.needs.Claim.{Claim}
-use Rattle.plan.specs.declared.needs.Claim.the-variants.{Nothing, Complete, Disjoint, Subset, Unlisted}
-use Rattle.plan.specs.declared.needs.Need.{Need}
+use Rattle.expressions.specs.Nodes.{nodeNumber}
+use Rattle.expressions.specs.Steps.{subsetNumber, disjointNumber, completeNumber, Concluded}
 
--- the plan of the sections that the needs depend on; of the nodes alone; of the steps alone
-abbrev pub needParts : Bytes → Bytes → Bytes → Bytes → Plan
-needParts statements nodes assignments steps = parts [] [] [] statements nodes assignments steps
+-- a plan of so many nodes, of which the table tells kind, a and b by one number each
+pub record NodesNumbered (P : Plan) (numbers : List ℕ) (nodes : ℕ) : Type 0 where
+  pub count-is : nodes ≡ nodeCount P
+  pub numbers-are : (j : ℕ) → j < nodeCount P → (k a b : ℕ) → k < 256 → a < 256 → b < 256
+      → (getD numbers j 0 == nodeNumber k a b) ≡ (nodeKind P j == k and nodeA P j == a and nodeB P j == b)
 
-abbrev pub nodeParts : Bytes → Plan
-nodeParts nodes = needParts [] nodes [] []
-
-abbrev pub stepParts : Bytes → Plan
-stepParts steps = needParts [] [] [] steps
-
--- node j is the image of node a under map m
-unfoldable pub isImage : Plan → ℕ → ℕ → ℕ → Bool
-isImage P a m j = nodeKind P j == IMAGE and nodeA P j == a and nodeB P j == m
+-- an image that may be asked for
+pub record ImageSought (nodes node map : ℕ) : Type 0 where
+  pub few-nodes : nodes ≤ 48
+  pub small-node : node < 256
+  pub small-map : map < 256
 
 -- the bound of the variable that statement s defines, from those of earlier variables
 unfoldable pub boundAt : Plan → ℕ → (ℕ → ℕ) → ℕ
 boundAt P s earlier = boundBy P (kind P s) s earlier
 
--- the symbol of statement s
-pub record SymbolOf (P : Plan) (s number : ℕ) : Type 0 where
+-- what bounds depend on: statements, assignments and nodes
+pub record BoundSources (P : Plan) (statements assignments : Bytes) (numbers : List ℕ) (nodes : ℕ) : Type 0 where
+  pub statements-are : P .statements ≡ statements
+  pub assignments-are : P .assignments ≡ assignments
+  pub numbered : NodesNumbered P numbers nodes
+
+pub record BoundSought (nodes s followed : ℕ) : Type 0 where
+  pub few-nodes : nodes ≤ 48
   pub few : s < 64
-  pub is : number ≡ symbol P s
+  pub small : followed < 256
+
+-- claims are numbers: that of the conclusion asked for, UNLISTED for SUB of a bound that is no node's number, NOTHING without a need
+abbrev pub UNLISTED : ℕ
+UNLISTED = 196608
+
+abbrev pub NOTHING : ℕ
+NOTHING = 196609
 
 -- what the symbol of a statement needs by its kind: "FOR needs COMP of its node", "An access needs SUB(bound, its node)"
-unfoldable pub firstClaim : StatementKind → ℕ → ℕ → ℕ → Claim
+unfoldable pub firstClaim : StatementKind → ℕ → ℕ → ℕ → ℕ
 firstClaim kind node bound nodes =
-    pick (opensLoop kind) (Complete node) (pick (isAccess (accessOf kind)) (pick (bound <? nodes) (Subset bound node) Unlisted) Nothing)
+    pick (opensLoop kind) (completeNumber node)
+    (pick (isAccess (accessOf kind)) (pick (bound <? nodes) (subsetNumber bound node) UNLISTED) NOTHING)
 
 -- and besides, for a loop that reduces through a pointer: "DISJ"
-unfoldable pub secondClaim : Bool → ℕ → Claim
-secondClaim reduces node = pick reduces (Disjoint node) Nothing
+unfoldable pub secondClaim : Bool → ℕ → ℕ
+secondClaim reduces node = pick reduces (disjointNumber node) NOTHING
 
-abbrev pub need : ℕ → Claim → Need
-need symbol claim = record { symbol = symbol; claim = claim }
+-- a node's number, and the number of nodes
+pub record ClaimParts (node nodes : ℕ) : Type 0 where
+  pub small-node : node < 256
+  pub few-nodes : nodes ≤ 48
 
-abbrev pub noNeed : Need
-noNeed = need 0 Nothing
+-- what needs depend on: the sources of bounds, and what the statements work on
+pub record NeedSources (P : Plan) (statements assignments : Bytes) (operands : List ℕ) (centers : List Bool) (numbers : List ℕ)
+    (nodes : ℕ) : Type 0 where
+  pub bounds : BoundSources P statements assignments numbers nodes
+  pub pointers : PointersKnown P statements operands centers
 
-unfoldable pub firstNeed : Plan → ℕ → Need
-firstNeed P s = need (symbol P s) (firstClaim (kind P s) (symbolNode P s) (operandBound P s) (nodeCount P))
+-- few statements and nodes, and tables with room for two claims and a symbol of each statement
+pub record NeedsFit (statements : Bytes) (nodes : ℕ) (claims symbols : List ℕ) : Type 0 where
+  pub few-statements : length statements / 4 ≤ 64
+  pub few-nodes : nodes ≤ 48
+  pub claims-room : length claims ≡ 128
+  pub symbols-room : length symbols ≡ 64
 
-unfoldable pub secondNeed : Plan → ℕ → Need
-secondNeed P s = need (symbol P s) (secondClaim (opens P s and reducesThroughPointer P s) (symbolNode P s))
+-- tables with the two claims and the symbol of each of the first n statements, whose nodes' numbers are bytes
+pub record Listed (P : Plan) (n : ℕ) (claims symbols : List ℕ) : Type 0 where
+  pub claims-room : length claims ≡ 128
+  pub symbols-room : length symbols ≡ 64
+  pub first-are : (s : ℕ) → s < n → getD claims (s * 2) 0 ≡ firstClaim (kind P s) (symbolNode P s) (operandBound P s) (nodeCount P)
+  pub second-are : (s : ℕ) → s < n → getD claims (s * 2 + 1) 0 ≡ secondClaim (opens P s and reducesThroughPointer P s) (symbolNode P s)
+  pub symbols-are : (s : ℕ) → s < n → getD symbols s 0 ≡ symbol P s
+  pub small-nodes : (s : ℕ) → s < n → symbolNode P s < 256
 
--- a table with the two needs of each of the first n statements
-pub record Listed (P : Plan) (n : ℕ) (needs : List Need) : Type 0 where
-  pub room : length needs ≡ 128
-  pub first-are : (s : ℕ) → s < n → getD needs (s * 2) noNeed ≡ firstNeed P s
-  pub second-are : (s : ℕ) → s < n → getD needs (s * 2 + 1) noNeed ≡ secondNeed P s
+-- claim i of those listed: "a need no step concludes" is refused at its symbol
+unfoldable pub settled : List ℕ → List ℕ → List ℕ → ℕ → ℕ → Outcome
+settled claims symbols conclusions steps i =
+    require (getD claims i 0 == NOTHING or any steps (λ t. getD conclusions t 0 == getD claims i 0)) (UnmetNeed (getD symbols (i / 2) 0))
 
--- whether a claim asks for a step
-unfoldable pub isWanted : Claim → Bool
-isWanted Nothing = false
-isWanted (Complete x) = true
-isWanted (Disjoint x) = true
-isWanted (Subset x y) = true
-isWanted Unlisted = true
+-- what the needs are inferred from and settled with: few statements, nodes and steps
+pub record Few (statements : Bytes) (nodes steps : ℕ) : Type 0 where
+  pub few-statements : length statements / 4 ≤ 64
+  pub few-nodes : nodes ≤ 48
+  pub few-steps : steps ≤ 128
 
--- step t concludes the claim; "An image node that is not listed makes that need unmet"
-unfoldable pub concludedBy : Plan → Claim → ℕ → Bool
-concludedBy P Nothing t = false
-concludedBy P (Complete x) t = concludesComplete P t x
-concludedBy P (Disjoint x) t = concludesDisjoint P t x
-concludedBy P (Subset x y) t = concludesSubset P t x y
-concludedBy P Unlisted t = false
-
-unfoldable pub isMet : Plan → Claim → Bool
-isMet P claim = non (isWanted claim) or any (stepCount P) (concludedBy P claim)
-
--- need i of those listed: "a need no step concludes" is refused at its symbol
-unfoldable pub settled : Plan → List Need → ℕ → Outcome
-settled P needs i = require (isMet P (getD needs i noNeed .claim)) (UnmetNeed (getD needs i noNeed .symbol))
-
--- what the needs are inferred from: few statements, and tables that hold section 4's values
-pub record NeedsKnown (statements : Bytes) (operands : List ℕ) (centers : List Bool) (loops : List ℕ) : Type 0 where
-  pub few : length statements / 4 ≤ 64
-  pub pointers : PointersKnown (statementParts statements) statements operands centers loops
+-- the sources of the needs, and tables of what each step concludes
+pub record NeedsKnown (P : Plan) (statements assignments : Bytes) (operands : List ℕ) (centers : List Bool) (numbers : List ℕ)
+    (nodes : ℕ) (conclusions : List ℕ) (steps : ℕ) : Type 0 where
+  pub sources : NeedSources P statements assignments operands centers numbers nodes
+  pub steps-are : steps ≡ stepCount P
+  pub concluded : Concluded P (stepCount P) conclusions

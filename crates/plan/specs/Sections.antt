@@ -5,7 +5,7 @@ use mathlib.Core.List.{List}
 use mathlib.Core.Bool.{Bool}
 use lib.ListN.{getD}
 use Rattle.model.specs.Outcomes.{_then_, scan}
-use Rattle.model.specs.Layout.{Plan, regionCount, mapCount, suppliedCount, statementCount, nodeCount, assignmentCount}
+use Rattle.model.specs.Layout.{Plan, regionCount, mapCount, suppliedCount, statementCount, nodeCount, assignmentCount, stepCount}
 use Rattle.model.specs.Statements.{statementCheck}
 use Rattle.model.specs.Parallel.{loopCheck}
 use Rattle.model.specs.Nodes.{nodeRegion, nodeCheck}
@@ -16,6 +16,8 @@ use Rattle.model.specs.declared.Outcome.{Outcome}
 use Rattle.model.specs.declared.Outcome.the-variants.{Pass}
 use Rattle.layout.specs.Declarations.{regionsCheck, mapsCheck, partitionsCheck}
 use Rattle.loops.specs.Tables.{StatementTables}
+use Rattle.loops.specs.Loops.{PointersKnown}
+use Rattle.plan.specs.Needs.{NodesNumbered, Few}
 use Rattle.expressions.specs.Steps.{stepsCheck}
 use Rattle.plan.specs.declared.records.CheckedStatements.{CheckedStatements}
 
@@ -54,16 +56,23 @@ module _ (P : Plan) where
 -- the outcome of section 4 and the loops and, after a pass, the tables of the statements
 pub record StatementsChecked (P : Plan) (r : CheckedStatements) : Type 0 where
   pub outcome : r .outcome ≡ (statementsCheck P then loopsCheck P)
-  pub tables : r .outcome ≡ Pass → StatementTables P (statementCount P) (r .operands) (r .regions) (r .centered) (r .loops)
+  pub tables : r .outcome ≡ Pass → StatementTables P (statementCount P) (r .operands) (r .regions) (r .centered)
 
-module _ (P : Plan) (operands regions : List ℕ) (centers : List Bool) (loops : List ℕ) where
+module _ (P : Plan) (operands regions : List ℕ) (centers : List Bool) where
   -- within the limits, and the tables hold what section 4's statements work on
   pub record StatementsKnown : Type 0 where
     pub limits : Limits P
-    pub statement-tables : StatementTables P (statementCount P) operands regions centers loops
+    pub statement-tables : StatementTables P (statementCount P) operands regions centers
 
-  -- the table of the nodes' regions holds them too
-  pub record NodesKnown (nodes : List ℕ) : Type 0 where
-    pub few-statements : statementCount P ≤ 64
-    pub statement-tables : StatementTables P (statementCount P) operands regions centers loops
-    pub node-regions : (j : ℕ) → j < nodeCount P → getD nodes j 0 ≡ nodeRegion P j
+  -- the tables of the nodes hold their regions and numbers too
+  pub record NodesKnown (nodeRegions numbers : List ℕ) : Type 0 where
+    pub few : Few (P .statements) (nodeCount P) (stepCount P)
+    pub statement-tables : StatementTables P (statementCount P) operands regions centers
+    pub node-regions : (j : ℕ) → j < nodeCount P → getD nodeRegions j 0 ≡ nodeRegion P j
+    pub numbered : NodesNumbered P numbers (nodeCount P)
+
+-- what section 7 and the needs ask for
+pub record StepsReady (P : Plan) (operands : List ℕ) (centers : List Bool) (numbers : List ℕ) : Type 0 where
+  pub few : Few (P .statements) (nodeCount P) (stepCount P)
+  pub pointers : PointersKnown P (P .statements) operands centers
+  pub numbered : NodesNumbered P numbers (nodeCount P)

@@ -1,6 +1,5 @@
 // Symbols, and section 6: a node for each, of its region.
 use layout::bytes::byte_at;
-use layout::lookup::number_at;
 use layout::outcomes::and_then;
 use layout::outcomes::require;
 use loops::kinds::access_of;
@@ -67,19 +66,14 @@ fn check_assignment_count(assignments: &[u8], symbols: usize) -> Outcome
 }
 
 // The region of the symbol of statement s: the loop's, or that of the access's variable.
-fn symbol_region(
-    statements: &[u8],
-    operands: &[usize],
-    variable_regions: &[usize],
-    s: usize,
-) -> usize
+fn symbol_region(statements: &[u8], operands: &[u8], variable_regions: &[u8], s: usize) -> usize
     requires { ⌜ Within (now statements) s ⌝ }
     ensures { λ r. ⌜ ((P : Plan) → RegionsKnown P (now (statements .entry)) (now (operands .entry)) (now («variable_regions» .entry)) → r ≡ symbolRegion P s) ⌝ }
 {
     if opens_loop(kind_at(statements, s)) {
         return byte_at(statements, s * 4 + 1);
     }
-    number_at(variable_regions, number_at(operands, s))
+    byte_at(variable_regions, byte_at(operands, s))
 }
 
 // The check of the node that is assigned to the symbol of statement s, if it has one.
@@ -87,9 +81,9 @@ fn check_assignment(
     statements: &[u8],
     assignments: &[u8],
     nodes: usize,
-    node_regions: &[usize],
-    operands: &[usize],
-    variable_regions: &[usize],
+    node_regions: &[u8],
+    operands: &[u8],
+    variable_regions: &[u8],
     symbol: usize,
     s: usize,
 ) -> Outcome
@@ -105,7 +99,7 @@ fn check_assignment(
     and_then(
         require(node < nodes, Refusal::InvalidRecord(place)),
         require(
-            number_at(node_regions, node) == region,
+            byte_at(node_regions, node) == region,
             Refusal::RegionMismatch(place),
         ),
     )
@@ -116,9 +110,9 @@ fn check_assigned_nodes(
     statements: &[u8],
     assignments: &[u8],
     nodes: usize,
-    node_regions: &[usize],
-    operands: &[usize],
-    variable_regions: &[usize],
+    node_regions: &[u8],
+    operands: &[u8],
+    variable_regions: &[u8],
 ) -> Outcome
     requires { ⌜ length (now statements) / 4 ≤ 64 ⌝ }
     ensures { λ r. ⌜ ((P : Plan) → AssignmentsKnown P (now (statements .entry)) (now (assignments .entry)) nodes (now («node_regions» .entry)) (now (operands .entry)) (now («variable_regions» .entry)) → r ≡ scan (assignmentCheck P) 0 (statementCount P)) ⌝ }
@@ -150,9 +144,9 @@ pub fn check_assignments(
     statements: &[u8],
     assignments: &[u8],
     nodes: usize,
-    node_regions: &[usize],
-    operands: &[usize],
-    variable_regions: &[usize],
+    node_regions: &[u8],
+    operands: &[u8],
+    variable_regions: &[u8],
 ) -> Outcome
     requires { ⌜ length (now statements) / 4 ≤ 64 ⌝ }
     ensures { λ r. ⌜ ((P : Plan) → AssignmentsKnown P (now (statements .entry)) (now (assignments .entry)) nodes (now («node_regions» .entry)) (now (operands .entry)) (now («variable_regions» .entry)) → r ≡ (assignmentCountCheck P then scan (assignmentCheck P) 0 (statementCount P))) ⌝ }

@@ -3,8 +3,8 @@ use crate::records::check_records;
 use layout::frame::Frame;
 use layout::frame::Framed;
 use layout::frame::read_frame;
+use layout::outcomes::conclude;
 use model::Answer;
-use model::Outcome;
 ghost use mathlib.Core.Path.{_≡_};
 ghost use Rattle.model.specs.Verdict.{verdict};
 ghost use Rattle.layout.specs.Frames.{Laid};
@@ -40,7 +40,7 @@ fn check_sections(plan: &[u8], frame: Frame) -> Answer
     let nodes = &plan[statements_end + 2..nodes_end];
     let assignments = &plan[nodes_end + 2..assignments_end];
     let steps = &plan[assignments_end + 2..steps_end];
-    match check_records(
+    let outcome = check_records(
         regions,
         maps,
         supplied,
@@ -48,14 +48,15 @@ fn check_sections(plan: &[u8], frame: Frame) -> Answer
         nodes,
         assignments,
         steps,
-    ) {
-        Outcome::Pass => Answer::Accepted {
+    );
+    conclude(
+        outcome,
+        Answer::Accepted {
             symbols: assignments.len(),
             nodes: nodes.len() / 4,
             steps: steps.len() / 5,
         },
-        Outcome::Refuse(refusal) => Answer::Refused(refusal),
-    }
+    )
 }
 
 // Reads a plan: verdict and frame together.

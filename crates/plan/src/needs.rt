@@ -1,12 +1,11 @@
 // Needs: what the loops ask the steps to conclude, and the search for the steps that do.
 use crate::assignments::next_symbol;
 use expressions::nodes::IMAGE;
-use expressions::nodes::node_at;
-use expressions::steps::concludes_complete;
-use expressions::steps::concludes_disjoint;
-use expressions::steps::concludes_subset;
+use expressions::nodes::node_number;
+use expressions::steps::complete_number;
+use expressions::steps::disjoint_number;
+use expressions::steps::subset_number;
 use layout::bytes::byte_at;
-use layout::lookup::number_at;
 use loops::kinds::access_of;
 use loops::kinds::is_access;
 use loops::kinds::opens_loop;
@@ -17,38 +16,23 @@ use model::Outcome;
 use model::Refusal;
 use model::StatementKind;
 ghost use mathlib.Core.Path.{_≡_};
-ghost use mathlib.Core.List.{[]};
-ghost use Prim.Native.Nat.{_+_, _*_, _^_, _≤_, _<_};
+ghost use Prim.Native.Nat.{_≤_, _<_};
+ghost use lib.ListN.{length};
 ghost use Rattle.model.specs.Tests.{_and_};
 ghost use Rattle.model.specs.Outcomes.{scan};
 ghost use Rattle.model.specs.Layout.{Plan, statementCount};
 ghost use Rattle.model.specs.Statements.{opens};
 ghost use Rattle.model.specs.Parallel.{reducesThroughPointer};
+ghost use Rattle.model.specs.Needs as Needs;
 ghost use Rattle.model.specs.Needs.{imageNode, needCheck};
-ghost use Rattle.loops.specs.Tables.{statementParts};
-ghost use Rattle.loops.specs.Loops.{PointersKnown, Within};
-ghost use Rattle.plan.specs.Needs.{needParts, nodeParts, stepParts, isImage, boundAt, SymbolOf, firstClaim, secondClaim, Listed, isWanted, concludedBy, settled, NeedsKnown};
+ghost use Rattle.loops.specs.Loops.{Within, PointersKnown};
+ghost use Rattle.plan.specs.Needs.{NodesNumbered, ImageSought, boundAt, BoundSources, BoundSought, firstClaim, secondClaim, ClaimParts, NeedSources, NeedsFit, Listed, settled, Few, NeedsKnown};
 
-// What a need asks a step to conclude.
-pub enum Claim {
-    Nothing, // there is no need
-    Complete(usize), // COMP(node)
-    Disjoint(usize), // DISJ(node)
-    Subset(usize, usize), // SUB(bound, node)
-    Unlisted, // SUB of a bound that is not listed as a node: no step concludes it
-}
+// The claim of a bound that is not listed as a node: no step concludes it.
+pub const UNLISTED: u32 = 196608;
 
-// A need of a symbol.
-pub struct Need {
-    pub symbol: usize,
-    pub claim: Claim,
-}
-
-// What the list of needs has for a statement that is not there.
-const NO_NEED: Need = Need {
-    symbol: 0,
-    claim: Claim::Nothing,
-};
+// The claim of a statement without a need.
+pub const NOTHING: u32 = 196609;
 
 // Where a search over the steps ends.
 pub enum Found {
@@ -56,22 +40,15 @@ pub enum Found {
     Nowhere,
 }
 
-// Whether node j is the image of a node under a map.
-fn is_image(nodes: &[u8], node: usize, map: usize, j: usize) -> bool
-    requires { ⌜ j * 4 + 3 < 2 ^ 64 ⌝ }
-    ensures { λ r. ⌜ r ≡ isImage (nodeParts (now (nodes .entry))) node map j ⌝ }
-{
-    let record = node_at(nodes, j);
-    (record.kind == IMAGE) & ((record.a == node) & (record.b == map))
-}
-
 // The image of a node under a map; the number of nodes where it is not listed.
-fn image_node(nodes: &[u8], node: usize, map: usize) -> usize
-    ensures { λ r. ⌜ r ≡ imageNode (nodeParts (now (nodes .entry))) node map ⌝ }
+fn image_node(numbers: &[u32; 48], nodes: usize, node: usize, map: usize) -> usize
+    requires { ⌜ ImageSought nodes node map ⌝ }
+    ensures { λ r. ⌜ ((P : Plan) → NodesNumbered P (now (numbers .entry)) nodes → r ≡ imageNode P node map) × (r ≤ nodes) ⌝ }
 {
+    let wanted = node_number(IMAGE, node, map);
     let mut j = 0;
-    while j < nodes.len() / 4 {
-        if is_image(nodes, node, map, j) {
+    while j < nodes {
+        if numbers[j] == wanted {
             return j;
         }
         j += 1;
@@ -82,179 +59,170 @@ fn image_node(nodes: &[u8], node: usize, map: usize) -> usize
 // The bound of the variable that statement s defines, given the statement's symbol and the bound of the variable that it follows.
 fn variable_bound(
     statements: &[u8],
-    nodes: &[u8],
     assignments: &[u8],
+    numbers: &[u32; 48],
+    nodes: usize,
     s: usize,
     symbol: usize,
     followed: usize,
 ) -> usize
-    requires { ⌜ SymbolOf (statementParts (now statements)) s symbol ⌝ }
-    ensures { λ r. ⌜ r ≡ boundAt (needParts (now (statements .entry)) (now (nodes .entry)) (now (assignments .entry)) []) s (λ d. followed) ⌝ }
+    requires { ⌜ BoundSought nodes s followed ⌝ }
+    ensures { λ r. ⌜ ((P : Plan) → BoundSources P (now (statements .entry)) (now (assignments .entry)) (now (numbers .entry)) nodes → symbol ≡ Needs.symbol P s → r ≡ boundAt P s (λ d. followed)) × (r < 256) ⌝ }
 {
     let map = byte_at(statements, s * 4 + 1);
-    let unlisted = nodes.len() / 4;
     match kind_at(statements, s) {
         StatementKind::For => byte_at(assignments, symbol),
-        StatementKind::Load => image_node(nodes, followed, map),
-        StatementKind::Call => image_node(nodes, followed, map),
+        StatementKind::Load => image_node(numbers, nodes, followed, map),
+        StatementKind::Call => image_node(numbers, nodes, followed, map),
         StatementKind::Copy => followed,
-        StatementKind::Read => unlisted,
-        StatementKind::Write => unlisted,
-        StatementKind::Reduce => unlisted,
-        StatementKind::Unknown => unlisted,
+        StatementKind::Read => nodes,
+        StatementKind::Write => nodes,
+        StatementKind::Reduce => nodes,
+        StatementKind::Unknown => nodes,
     }
 }
 
 // What a statement's symbol needs: a loop COMP of its node, an access SUB of its variable's bound in its node.
-fn first_claim(kind: StatementKind, node: usize, bound: usize, nodes: usize) -> Claim
+fn first_claim(kind: StatementKind, node: usize, bound: usize, nodes: usize) -> u32
+    requires { ⌜ ClaimParts node nodes ⌝ }
     ensures { λ r. ⌜ r ≡ firstClaim kind node bound nodes ⌝ }
 {
     if opens_loop(kind) {
-        return Claim::Complete(node);
+        return complete_number(node);
     }
     if !is_access(access_of(kind)) {
-        return Claim::Nothing;
+        return NOTHING;
     }
     if bound < nodes {
-        Claim::Subset(bound, node)
+        subset_number(bound, node)
     } else {
-        Claim::Unlisted
+        UNLISTED
     }
 }
 
 // Whether statement s opens a loop that reduces through a pointer.
-fn needs_disjoint(
-    statements: &[u8],
-    operands: &[usize],
-    centered: &[bool],
-    loops: &[usize],
-    s: usize,
-) -> bool
+fn needs_disjoint(statements: &[u8], operands: &[u8], centered: &[bool], s: usize) -> bool
     requires { ⌜ Within (now statements) s ⌝ }
-    ensures { λ r. ⌜ ((P : Plan) → PointersKnown P (now (statements .entry)) (now (operands .entry)) (now (centered .entry)) (now (loops .entry)) → r ≡ (opens P s and reducesThroughPointer P s)) ⌝ }
+    ensures { λ r. ⌜ ((P : Plan) → PointersKnown P (now (statements .entry)) (now (operands .entry)) (now (centered .entry)) → r ≡ (opens P s and reducesThroughPointer P s)) ⌝ }
 {
     if opens_loop(kind_at(statements, s)) {
-        return reduces_through_pointer(statements, operands, centered, loops, s);
+        return reduces_through_pointer(statements, operands, centered, s);
     }
     false
 }
 
 // What the symbol of a loop needs besides: DISJ of its node, if the loop reduces through a pointer.
-fn second_claim(reduces: bool, node: usize) -> Claim
+fn second_claim(reduces: bool, node: usize) -> u32
+    requires { ⌜ node < 256 ⌝ }
     ensures { λ r. ⌜ r ≡ secondClaim reduces node ⌝ }
 {
     if reduces {
-        Claim::Disjoint(node)
+        disjoint_number(node)
     } else {
-        Claim::Nothing
-    }
-}
-
-// Whether a claim asks for a step.
-fn is_wanted(claim: Claim) -> bool
-    ensures { λ r. ⌜ r ≡ isWanted claim ⌝ }
-{
-    match claim {
-        Claim::Nothing => false,
-        Claim::Complete(_) => true,
-        Claim::Disjoint(_) => true,
-        Claim::Subset(_, _) => true,
-        Claim::Unlisted => true,
-    }
-}
-
-// Whether step t concludes the claim.
-fn is_concluded(steps: &[u8], t: usize, claim: Claim) -> bool
-    requires { ⌜ t * 5 + 4 < 2 ^ 64 ⌝ }
-    ensures { λ r. ⌜ r ≡ concludedBy (stepParts (now (steps .entry))) claim t ⌝ }
-{
-    match claim {
-        Claim::Nothing => false,
-        Claim::Complete(node) => concludes_complete(steps, t, node),
-        Claim::Disjoint(node) => concludes_disjoint(steps, t, node),
-        Claim::Subset(bound, node) => concludes_subset(steps, t, bound, node),
-        Claim::Unlisted => false,
+        NOTHING
     }
 }
 
 // Settles the needs in order: the steps are searched for each, and the search is left at the first that concludes it.
-fn settle(needs: [Need; 128], count: usize, steps: &[u8]) -> Outcome
-    requires { ⌜ count ≤ 128 ⌝ }
-    ensures { λ r. ⌜ r ≡ scan (settled (stepParts (now (steps .entry))) needs) 0 count ⌝ }
+fn settle(
+    claims: &[u32; 128],
+    symbols: &[u8],
+    count: usize,
+    conclusions: &[u32; 128],
+    steps: usize,
+) -> Outcome
+    requires { ⌜ (count ≤ 128) × (steps ≤ 128) ⌝ }
+    ensures { λ r. ⌜ r ≡ scan (settled (now (claims .entry)) (now (symbols .entry)) (now (conclusions .entry)) steps) 0 count ⌝ }
 {
     let mut i = 0;
     'needs: while i < count {
-        let need = needs[i];
-        let claim = need.claim;
-        if !is_wanted(claim) {
+        let claim = claims[i];
+        if claim == NOTHING {
             i += 1;
             continue 'needs;
         }
         let mut t = 0;
         let found = 'steps: loop {
-            if t >= steps.len() / 5 {
+            if t >= steps {
                 break 'steps Found::Nowhere;
             }
-            if is_concluded(steps, t, claim) {
+            if conclusions[t] == claim {
                 break 'steps Found::At(t);
             }
             t += 1;
         };
         match found {
             Found::At(_) => i += 1,
-            Found::Nowhere => return Outcome::Refuse(Refusal::UnmetNeed(need.symbol)),
+            Found::Nowhere => return Outcome::Refuse(Refusal::UnmetNeed(byte_at(symbols, i / 2))),
         }
     }
     Outcome::Pass
 }
 
-// The needs of the statements in order, two of each: need 2s and need 2s + 1 are those of statement s.
+// Lists the claims of the statements in order, two of each: claims 2s and 2s + 1 are those of statement s.
 fn list_needs(
     statements: &[u8],
-    nodes: &[u8],
     assignments: &[u8],
-    operands: &[usize],
+    operands: &[u8],
     centered: &[bool],
-    loops: &[usize],
-) -> [Need; 128]
-    requires { ⌜ NeedsKnown (now statements) (now operands) (now centered) (now loops) ⌝ }
-    ensures { λ r. ⌜ Listed (needParts (now (statements .entry)) (now (nodes .entry)) (now (assignments .entry)) []) (statementCount (statementParts (now (statements .entry)))) r ⌝ }
+    numbers: &[u32; 48],
+    nodes: usize,
+    claims: &mut [u32; 128],
+    symbols: &mut [u8; 64],
+)
+    requires { ⌜ NeedsFit (now statements) nodes (now claims) (now symbols) ⌝ }
+    ensures { λ _. ⌜ (length (now (symbols .exit)) ≡ 64) × ((P : Plan) → NeedSources P (now (statements .entry)) (now (assignments .entry)) (now (operands .entry)) (now (centered .entry)) (now (numbers .entry)) nodes → Listed P (statementCount P) (now (claims .exit)) (now (symbols .exit))) ⌝ }
 {
-    let count = nodes.len() / 4;
-    let mut bounds = [0; 64];
-    let mut needs = [NO_NEED; 128];
+    let mut bounds = [0u8; 64];
     let mut symbol = 0;
     let mut s = 0;
     while s < statements.len() / 4 {
         let node = byte_at(assignments, symbol);
-        let operand = number_at(operands, s);
-        let followed = earlier_number(&bounds, s, operand, count);
-        bounds[s] = variable_bound(statements, nodes, assignments, s, symbol, followed);
-        let bound = number_at(&bounds, operand);
-        let claim = first_claim(kind_at(statements, s), node, bound, count);
-        needs[s * 2] = Need { symbol, claim };
-        let reduces = needs_disjoint(statements, operands, centered, loops, s);
-        let claim = second_claim(reduces, node);
-        needs[s * 2 + 1] = Need { symbol, claim };
+        let operand = byte_at(operands, s);
+        let followed = earlier_number(&bounds, s, operand, nodes);
+        let defined = variable_bound(statements, assignments, numbers, nodes, s, symbol, followed);
+        bounds[s] = defined as u8;
+        let bound = byte_at(&bounds, operand);
+        claims[s * 2] = first_claim(kind_at(statements, s), node, bound, nodes);
+        let reduces = needs_disjoint(statements, operands, centered, s);
+        claims[s * 2 + 1] = second_claim(reduces, node);
+        symbols[s] = symbol as u8;
         symbol = next_symbol(statements, s, symbol);
         s += 1;
     }
-    needs
 }
 
 // The check of the needs: the first that no step concludes is refused, at its symbol.
 pub fn check_needs(
     statements: &[u8],
-    nodes: &[u8],
     assignments: &[u8],
-    steps: &[u8],
-    operands: &[usize],
+    operands: &[u8],
     centered: &[bool],
-    loops: &[usize],
+    numbers: &[u32; 48],
+    nodes: usize,
+    conclusions: &[u32; 128],
+    steps: usize,
 ) -> Outcome
-    requires { ⌜ NeedsKnown (now statements) (now operands) (now centered) (now loops) ⌝ }
-    ensures { λ r. ⌜ r ≡ scan (needCheck (needParts (now (statements .entry)) (now (nodes .entry)) (now (assignments .entry)) (now (steps .entry)))) 0 (statementCount (statementParts (now (statements .entry)))) ⌝ }
+    requires { ⌜ Few (now statements) nodes steps ⌝ }
+    ensures { λ r. ⌜ ((P : Plan) → NeedsKnown P (now (statements .entry)) (now (assignments .entry)) (now (operands .entry)) (now (centered .entry)) (now (numbers .entry)) nodes (now (conclusions .entry)) steps → r ≡ scan (needCheck P) 0 (statementCount P)) ⌝ }
 {
-    let needs = list_needs(statements, nodes, assignments, operands, centered, loops);
-    settle(needs, statements.len() / 4 * 2, steps)
+    let mut claims = [NOTHING; 128];
+    let mut symbols = [0u8; 64];
+    list_needs(
+        statements,
+        assignments,
+        operands,
+        centered,
+        numbers,
+        nodes,
+        &mut claims,
+        &mut symbols,
+    );
+    settle(
+        &claims,
+        &symbols,
+        statements.len() / 4 * 2,
+        conclusions,
+        steps,
+    )
 }

@@ -17,16 +17,14 @@ ghost use Rattle.model.specs.Verdict.{recordsCheck};
 ghost use Rattle.model.specs.AcceptedPlans.{Limits};
 ghost use Rattle.layout.specs.Parts.{parts};
 ghost use Rattle.loops.specs.Tables.{loopParts};
-ghost use Rattle.plan.specs.Needs.{NeedsKnown};
-ghost use Rattle.plan.specs.Sections.{StatementsChecked, StatementsKnown, NodesKnown, fromStatements, fromNodes, fromAssignments, fromSteps};
+ghost use Rattle.plan.specs.Sections.{StatementsChecked, StatementsKnown, NodesKnown, StepsReady, fromStatements, fromNodes, fromAssignments, fromSteps};
 
 // The outcome of section 4 and its loops and, after a pass, the tables of the statements.
 struct CheckedStatements {
     outcome: Outcome,
-    operands: [usize; 64],
-    regions: [usize; 64],
+    operands: [u8; 64],
+    regions: [u8; 64],
     centered: [bool; 64],
-    loops: [usize; 64],
 }
 
 // Section 7 and the needs.
@@ -37,25 +35,27 @@ fn check_from_steps(
     nodes: &[u8],
     assignments: &[u8],
     steps: &[u8],
-    operands: &[usize],
+    operands: &[u8],
     centered: &[bool],
-    loops: &[usize],
+    numbers: &[u32; 48],
 ) -> Outcome
-    requires { ⌜ NeedsKnown (now statements) (now operands) (now centered) (now loops) ⌝ }
+    requires { ⌜ StepsReady (parts [] (now maps) (now supplied) (now statements) (now nodes) (now assignments) (now steps)) (now operands) (now centered) (now numbers) ⌝ }
     ensures { λ r. ⌜ r ≡ fromSteps (parts [] (now (maps .entry)) (now (supplied .entry)) (now (statements .entry)) (now (nodes .entry)) (now (assignments .entry)) (now (steps .entry))) ⌝ }
 {
-    match check_steps(maps, supplied, nodes, steps) {
+    let mut conclusions = [0u32; 128];
+    match check_steps(maps, supplied, nodes, steps, &mut conclusions) {
         Outcome::Pass => {}
         Outcome::Refuse(refusal) => return Outcome::Refuse(refusal),
     }
     check_needs(
         statements,
-        nodes,
         assignments,
-        steps,
         operands,
         centered,
-        loops,
+        numbers,
+        nodes.len() / 4,
+        &conclusions,
+        steps.len() / 5,
     )
 }
 
@@ -67,13 +67,13 @@ fn check_from_assignments(
     nodes: &[u8],
     assignments: &[u8],
     steps: &[u8],
-    operands: &[usize],
-    variable_regions: &[usize],
+    operands: &[u8],
+    variable_regions: &[u8],
     centered: &[bool],
-    loops: &[usize],
-    node_regions: &[usize],
+    node_regions: &[u8],
+    numbers: &[u32; 48],
 ) -> Outcome
-    requires { ⌜ NodesKnown (parts [] (now maps) (now supplied) (now statements) (now nodes) (now assignments) (now steps)) (now operands) (now «variable_regions») (now centered) (now loops) (now «node_regions») ⌝ }
+    requires { ⌜ NodesKnown (parts [] (now maps) (now supplied) (now statements) (now nodes) (now assignments) (now steps)) (now operands) (now «variable_regions») (now centered) (now «node_regions») (now numbers) ⌝ }
     ensures { λ r. ⌜ r ≡ fromAssignments (parts [] (now (maps .entry)) (now (supplied .entry)) (now (statements .entry)) (now (nodes .entry)) (now (assignments .entry)) (now (steps .entry))) ⌝ }
 {
     match check_assignments(
@@ -96,7 +96,7 @@ fn check_from_assignments(
         steps,
         operands,
         centered,
-        loops,
+        numbers,
     )
 }
 
@@ -109,12 +109,11 @@ fn check_from_nodes(
     nodes: &[u8],
     assignments: &[u8],
     steps: &[u8],
-    operands: &[usize],
-    variable_regions: &[usize],
+    operands: &[u8],
+    variable_regions: &[u8],
     centered: &[bool],
-    loops: &[usize],
 ) -> Outcome
-    requires { ⌜ StatementsKnown (parts (now regions) (now maps) (now supplied) (now statements) (now nodes) (now assignments) (now steps)) (now operands) (now «variable_regions») (now centered) (now loops) ⌝ }
+    requires { ⌜ StatementsKnown (parts (now regions) (now maps) (now supplied) (now statements) (now nodes) (now assignments) (now steps)) (now operands) (now «variable_regions») (now centered) ⌝ }
     ensures { λ r. ⌜ r ≡ fromNodes (parts (now (regions .entry)) (now (maps .entry)) (now (supplied .entry)) (now (statements .entry)) (now (nodes .entry)) (now (assignments .entry)) (now (steps .entry))) ⌝ }
 {
     let checked = check_nodes(regions, maps, supplied, nodes);
@@ -124,6 +123,7 @@ fn check_from_nodes(
         Outcome::Refuse(refusal) => return Outcome::Refuse(refusal),
     }
     let node_regions = checked.regions;
+    let numbers = checked.numbers;
     check_from_assignments(
         maps,
         supplied,
@@ -134,8 +134,8 @@ fn check_from_nodes(
         operands,
         variable_regions,
         centered,
-        loops,
         &node_regions,
+        &numbers,
     )
 }
 
@@ -144,10 +144,9 @@ fn check_statements_and_loops(regions: &[u8], maps: &[u8], statements: &[u8]) ->
     requires { ⌜ length (now statements) / 4 ≤ 64 ⌝ }
     ensures { λ r. ⌜ StatementsChecked (loopParts (now (regions .entry)) (now (maps .entry)) (now (statements .entry))) r ⌝ }
 {
-    let mut operands = [0usize; 64];
-    let mut variable_regions = [0usize; 64];
+    let mut operands = [0u8; 64];
+    let mut variable_regions = [0u8; 64];
     let mut centered = [false; 64];
-    let mut loops = [0usize; 64];
     let outcome = match check_statements(
         regions,
         maps,
@@ -155,9 +154,8 @@ fn check_statements_and_loops(regions: &[u8], maps: &[u8], statements: &[u8]) ->
         &mut operands,
         &mut variable_regions,
         &mut centered,
-        &mut loops,
     ) {
-        Outcome::Pass => check_loops(statements, &operands, &variable_regions, &centered, &loops),
+        Outcome::Pass => check_loops(statements, &operands, &variable_regions, &centered),
         Outcome::Refuse(refusal) => Outcome::Refuse(refusal),
     };
     CheckedStatements {
@@ -165,7 +163,6 @@ fn check_statements_and_loops(regions: &[u8], maps: &[u8], statements: &[u8]) ->
         operands,
         regions: variable_regions,
         centered,
-        loops,
     }
 }
 
@@ -191,7 +188,6 @@ fn check_from_statements(
     let operands = checked.operands;
     let variable_regions = checked.regions;
     let centered = checked.centered;
-    let loops = checked.loops;
     check_from_nodes(
         regions,
         maps,
@@ -203,7 +199,6 @@ fn check_from_statements(
         &operands,
         &variable_regions,
         &centered,
-        &loops,
     )
 }
 

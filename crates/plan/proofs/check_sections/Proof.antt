@@ -1,6 +1,7 @@
 -- The sections are those of the plan, and their records decide (Verdict). Assumes nothing.
+use mathlib.Core.Path.{_∙_}
 use borrow.Author.Needs.{needs}
-use Rattle.plan.proofs.Verdict.{cut-limits, plan-accepted, plan-refused}
+use Rattle.plan.proofs.Verdict.{cut-limits, plan-concluded}
 use Rattle.plan.proofs.check_sections.Tie as tie
 use Rattle.plan.proofs.check_sections.Statement.{statement}
 
@@ -90,23 +91,11 @@ check-records-requires c κs =
     let start = c .before .before .before .before .before .before .before .before in
     cut-limits _ (start .args .frame) (start .pre)
 
-enum-told : tie.Need-enum-told
-enum-told c = search needs
-
-enum-known-refusal : tie.Need-enum-known-refusal
-enum-known-refusal c = search needs
-
 returns : tie.Need-returns
 returns c =
-    let m = c .before .before in
+    let m = c .before in
     let start = m .before .before .before .before .before .before .before .before .before in
-    plan-accepted _ (start .args .frame) (start .pre) (m .check-records .ensures) (c .enum-told .given .1)
-
-returns-2 : tie.Need-returns-2
-returns-2 c =
-    let m = c .before .before .before in
-    let start = m .before .before .before .before .before .before .before .before .before in
-    plan-refused _ (start .args .frame) (start .pre) (m .check-records .ensures) (c .before .refusal .given .1)
+    c .conclude .ensures ∙ plan-concluded _ (start .args .frame) (start .pre) (m .check-records .ensures)
 
 pub check-sections-spec : {M : Type 1} → statement M
 check-sections-spec =
@@ -140,7 +129,5 @@ check-sections-spec =
     part-steps-start
     part-steps-end
     check-records-requires
-    enum-told
-    enum-known-refusal
-    returns
-    returns-2)
+    (λ c κs. search needs)
+    returns)

@@ -1,21 +1,28 @@
--- The nodes and steps, as they were read, are the rows' own. Assumes nothing.
+-- The nodes, as they were read, and what steps p and q conclude are the rows' own. Assumes nothing.
 use Rattle.model.specs.Tests.{any, _and_, _or_, _==_}
 use Rattle.model.specs.Lemmas.{licence, licences, concludesSubset, concludesComplete}
 use borrow.Author.Needs.{needs}
 use Rattle.expressions.proofs.RecordValues.{node-is}
+use Rattle.expressions.proofs.StepLaws.{said}
 use Rattle.expressions.proofs.licences.complete_licensed.Statement.{statement}
 use Rattle.expressions.proofs.licences.complete_licensed.Tie as tie
 
 returns : tie.Need-returns
 unfolding licence licences concludesSubset concludesComplete any _and_ _or_ _==_
 returns c =
-    let m = c .before .before .before in
+    let three = c .before .before .before .before in
+    let two = three .before .before in
+    let one = two .before .before in
+    let start = one .before .before .before in
+    let x = start .node-at .ensures in
+    let known = start .before .before .before .before .pre in
+    let s = said known (λ i. start .before .shared-slice-known3 .given i .fits) in
     rw (
-      m .concludes-complete2 .ensures,
-      m .before .concludes-subset .ensures,
-      m .before .before .concludes-complete .ensures,
-      m .before .before .before .byte-at .ensures .0,
-      node-is (m .before .before .before .before .before .node-at .ensures),
+      s .p-complete (three .complete-number2 .ensures) (x .small-a),
+      s .q-subset (two .subset-number .ensures) (known .bytes .y) (known .bytes .x),
+      s .p-complete (one .complete-number .ensures) (known .bytes .y),
+      one .before .byte-at .ensures .0,
+      node-is x,
     )
 
 pub complete-licensed-spec : {M : Type 1} → statement M

@@ -1,21 +1,29 @@
--- The nodes and steps, as they were read, are the rows' own. Assumes nothing.
+-- The nodes, as they were read, and what steps p and q conclude are the rows' own. Assumes nothing.
 use Rattle.model.specs.Tests.{any, _and_, _or_, _==_}
 use Rattle.model.specs.Lemmas.{licence, licences, concludesSubset, concludesDisjoint}
 use borrow.Author.Needs.{needs}
 use Rattle.expressions.proofs.RecordValues.{node-is}
+use Rattle.expressions.proofs.StepLaws.{said}
 use Rattle.expressions.proofs.licences.disjoint_licensed.Statement.{statement}
 use Rattle.expressions.proofs.licences.disjoint_licensed.Tie as tie
 
 returns : tie.Need-returns
 unfolding licence licences concludesSubset concludesDisjoint any _and_ _or_ _==_
 returns c =
-    let m = c .before .before .before .before .before .before .before in
+    let four = c .before .before .before .before .before .before .before .before in
+    let three = four .before .before in
+    let two = three .before .before in
+    let one = two .before .before in
+    let start = one .before in
+    let x = start .node-at .ensures in
+    let known = start .before .before .before .pre in
+    let s = said known (λ i. start .before .shared-slice-known2 .given i .fits) in
     rw (
-      m .concludes-disjoint3 .ensures,
-      m .before .concludes-disjoint2 .ensures,
-      m .before .before .concludes-subset .ensures,
-      m .before .before .before .concludes-disjoint .ensures,
-      node-is (m .before .before .before .before .node-at .ensures),
+      s .p-disjoint (four .disjoint-number3 .ensures) (x .small-b),
+      s .p-disjoint (three .disjoint-number2 .ensures) (x .small-a),
+      s .q-subset (two .subset-number .ensures) (known .bytes .x) (known .bytes .y),
+      s .p-disjoint (one .disjoint-number .ensures) (known .bytes .y),
+      node-is x,
     )
 
 pub disjoint-licensed-spec : {M : Type 1} → statement M

@@ -1,25 +1,39 @@
--- The nodes and steps, as they were read, are the rows' own. Assumes nothing.
+-- The nodes, as they were read, and what steps p and q conclude are the rows' own. Assumes nothing.
 use Rattle.model.specs.Tests.{any, _and_, _or_, _==_}
 use Rattle.model.specs.Lemmas.{licence, licences, operandOf, concludesSubset}
 use borrow.Author.Needs.{needs}
-use Rattle.expressions.proofs.RecordValues.{node-is, step-is}
+use Rattle.expressions.proofs.RecordValues.{node-is}
+use Rattle.expressions.proofs.StepLaws.{said}
 use Rattle.expressions.proofs.licences.operator_licensed.Statement.{statement}
 use Rattle.expressions.proofs.licences.operator_licensed.Tie as tie
 
 returns : tie.Need-returns
 unfolding licence licences operandOf concludesSubset any _and_ _or_ _==_
 returns c =
-    let m = c .before .before .before .before .before .before .before .before .before .before .before .before .before .before .before .before .before .before .before .before .before in
+    let six = c .before .before .before .before .before .before .before .before .before .before .before .before .before .before .before .before .before .before .before .before .before .before in
+    let five = six .before .before in
+    let four = five .before .before in
+    let three = four .before .before in
+    let two = three .before .before in
+    let one = two .before .before in
+    let read = one .before in
+    let y = read .before .before .node-at2 .ensures in
+    let start = read .before .before .before in
+    let x = start .node-at .ensures in
+    let known = start .before .before .before .pre in
+    let own = known .bytes in
+    let middle = read .byte-at .ensures .1 in
+    let s = said known (λ i. start .before .shared-slice-known2 .given i .fits) in
     rw (
-      m .concludes-subset6 .ensures,
-      m .before .concludes-subset5 .ensures,
-      m .before .before .concludes-subset4 .ensures,
-      m .before .before .before .concludes-subset3 .ensures,
-      m .before .before .before .before .concludes-subset2 .ensures,
-      m .before .before .before .before .before .concludes-subset .ensures,
-      step-is (m .before .before .before .before .before .before .step-at .ensures),
-      node-is (m .before .before .before .before .before .before .before .node-at2 .ensures),
-      node-is (m .before .before .before .before .before .before .before .before .node-at .ensures),
+      s .q-subset (six .subset-number6 .ensures) (own .x) (y .small-b),
+      s .p-subset (five .subset-number5 .ensures) (own .x) (y .small-a),
+      s .q-subset (four .subset-number4 .ensures) (x .small-b) (own .y),
+      s .p-subset (three .subset-number3 .ensures) (x .small-a) (own .y),
+      s .q-subset (two .subset-number2 .ensures) middle (own .y),
+      s .p-subset (one .subset-number .ensures) (own .x) middle,
+      read .byte-at .ensures .0,
+      node-is y,
+      node-is x,
     )
 
 pub operator-licensed-spec : {M : Type 1} → statement M
@@ -28,6 +42,8 @@ operator-licensed-spec =
     (tie.spec
     (λ c κs. search needs)
     (λ c κs. search needs)
+    (λ c. search needs)
+    (λ c. search needs)
     (λ c κs. search needs)
     (λ c κs. search needs)
     (λ c κs. search needs)

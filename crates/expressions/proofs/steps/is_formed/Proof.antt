@@ -8,23 +8,21 @@ use Rattle.expressions.proofs.steps.is_formed.Tie as tie
 
 returns : tie.Need-returns
 unfolding stepFormed _and_ _≤?_
-returns c =
+returns c steps read =
     let m = c .before .before in
     rw (
       m .in-use4 .ensures,
       m .before .in-use3 .ensures,
       m .before .before .in-use2 .ensures,
       m .before .before .before .in-use .ensures,
-      m .before .before .before .before .lemma-row .ensures,
-      step-is (m .before .before .before .before .before .step-at .ensures),
+      m .before .before .before .before .before .pre,
+      step-is read,
     )
 
 pub is-formed-spec : {M : Type 1} → statement M
 is-formed-spec =
     tie.close
     (tie.spec
-    (λ c κs. search needs)
-    (λ c κs. search needs)
     (λ c κs. search needs)
     (λ c κs. search needs)
     (λ c κs. search needs)

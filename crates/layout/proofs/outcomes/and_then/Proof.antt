@@ -4,8 +4,6 @@ use Rattle.model.specs.Outcomes.{_then_}
 use Rattle.layout.proofs.outcomes.and_then.Tie as tie
 use Rattle.layout.proofs.outcomes.and_then.Statement.{statement}
 
--- By the two cases of the first outcome. Assumes nothing.
-
 enum-told : tie.Need-enum-told
 enum-told c = search needs
 

@@ -1,5 +1,5 @@
--- An earlier entry is in the table. Assumes nothing.
-use mathlib.Core.Path.{sym}
+-- An earlier entry is in the table, and a byte. Assumes nothing.
+use mathlib.Core.Path.{sym, _∙_}
 use Rattle.model.proofs.Recursion.{below-at}
 use Rattle.layout.proofs.Filling.{below-past}
 use borrow.Author.Needs.{needs}
@@ -7,10 +7,10 @@ use Rattle.loops.proofs.lookup.earlier_number.Statement.{statement}
 use Rattle.loops.proofs.lookup.earlier_number.Tie as tie
 
 returns : tie.Need-returns
-returns c = sym (below-at _ _ _ _ (c .before .if1 .taken))
+returns c = (c .number-of .ensures .0 ∙ sym (below-at _ _ _ _ (c .before .before .if1 .taken)), λ h. c .number-of .ensures .1)
 
 returns-2 : tie.Need-returns-2
-returns-2 c = sym (below-past _ _ _ _ (c .if1 .left))
+returns-2 c = (sym (below-past _ _ _ _ (c .if1 .left)), λ h. h)
 
 pub earlier-number-spec : {M : Type 1} → statement M
-earlier-number-spec = tie.close (tie.spec (λ c. search needs) (λ c. search needs) returns returns-2)
+earlier-number-spec = tie.close (tie.spec (λ c. search needs) (λ c κs. search needs) returns returns-2)

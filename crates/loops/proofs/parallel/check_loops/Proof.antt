@@ -13,12 +13,12 @@ use Rattle.loops.proofs.parallel.check_loops.Statement.{statement}
 use Rattle.loops.proofs.parallel.check_loops.Tie as tie
 
 abbrev Inv-loop : tie.InvT-loop
-Inv-loop statements operands variable-regions centered loops f₀ f =
-    (f ≤ length statements / 4) × ((P : Plan) → LoopsKnown P statements operands variable-regions centered loops
+Inv-loop statements operands variable-regions centered f₀ f =
+    (f ≤ length statements / 4) × ((P : Plan) → LoopsKnown P statements operands variable-regions centered
     → scan (loopCheck P) f (length statements / 4 - f) ≡ scan (loopCheck P) 0 (statementCount P))
 
 abbrev μ-loop : tie.MeasureT-loop
-μ-loop statements operands variable-regions centered loops f₀ f = length statements / 4 - f
+μ-loop statements operands variable-regions centered f₀ f = length statements / 4 - f
 
 loop-holds : tie.Need-loop-holds Inv-loop μ-loop
 loop-holds c = (search needs, λ P known. rw (← count-of-plan P (known .section)) (scan-start (loopCheck P) _))

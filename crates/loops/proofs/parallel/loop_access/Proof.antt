@@ -6,8 +6,8 @@ use Rattle.loops.proofs.parallel.loop_access.Tie as tie
 
 returns : tie.Need-returns
 returns c =
-    λ P loops known lt. access-is P known _ lt (c .before .before .before .access-of .ensures) (c .before .before .before .before .kind-at .ensures) (c .before .before .before .before .before .number-at .ensures)
-    (c .before .before .number-at2 .ensures) (c .before .flag-at .ensures) (c .byte-at .ensures .0)
+    λ P known lt. access-is P known _ lt (c .before .before .before .access-of .ensures) (c .before .before .before .before .kind-at .ensures) (c .before .before .before .before .before .byte-at .ensures .0)
+    (c .before .before .byte-at2 .ensures .0) (c .before .flag-at .ensures) (c .byte-at3 .ensures .0)
 
 pub loop-access-spec : {M : Type 1} → statement M
 loop-access-spec =

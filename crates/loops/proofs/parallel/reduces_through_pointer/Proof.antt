@@ -1,42 +1,59 @@
 -- None before s is such a reduction; the first that is decides. Assumes nothing.
-use Prim.Native.Nat.{_-_, _/_, _≤_}
+use denote.Ref.{now}
+use Prim.Native.Nat.{_-_, _≤_}
 use mathlib.Core.Path.{_≡_, sym, _∙_}
 use mathlib.Core.Bool.{false}
-use lib.ListN.{length}
-use Rattle.model.specs.Tests.{any}
+use native.Mathlib.Omega.{arith}
+use Rattle.model.specs.Tests.{Is, any}
 use Rattle.model.specs.Layout.{Plan}
+use Rattle.model.specs.Statements.{opens}
 use Rattle.model.specs.Parallel.{reducesThroughPointer}
-use Rattle.loops.specs.Loops.{PointersKnown, pointerReduction}
+use Rattle.loops.specs.Loops.{LoopSpan, PointersKnown, pointerReduction}
 use Rattle.model.proofs.Tests.{among}
-use Rattle.loops.proofs.Pairs.{count-of-plan}
-use Rattle.layout.proofs.Searches.{none-before, none-next, none-at-end}
+use Rattle.loops.proofs.Harmless.{other-reduction}
+use Rattle.loops.proofs.Spans.{none-before-loop, none-after-loop}
+use Rattle.layout.proofs.Searches.{none-next}
 use borrow.Author.Needs.{needs}
 use Rattle.loops.proofs.parallel.reduces_through_pointer.Statement.{statement}
 use Rattle.loops.proofs.parallel.reduces_through_pointer.Tie as tie
 
 abbrev Inv-loop : tie.InvT-loop
-Inv-loop statements operands centered loops f s₀ s =
-    (s ≤ length statements / 4) × ((P : Plan) → PointersKnown P statements operands centered loops → any s (pointerReduction P f) ≡ false)
+Inv-loop statements operands centered f end s₀ s =
+    (f ≤ s) × ((P : Plan) → PointersKnown P statements operands centered → Is (opens P f) → any s (pointerReduction P f) ≡ false)
 
 abbrev μ-loop : tie.MeasureT-loop
-μ-loop statements operands centered loops f s₀ s = length statements / 4 - s
+μ-loop statements operands centered f end s₀ s = end - s
+
+abbrev Known : tie.Start Inv-loop μ-loop → Plan → Type 0
+Known a P = PointersKnown P (now (a .args .statements)) (now (a .args .operands)) (now (a .args .centered))
+
+span : (m : tie.After-loop-end Inv-loop μ-loop) (P : Plan) → (let a = m .before .before .before .before in Known a P → Is (opens P (a .args .f)) → LoopSpan P (a .args .f) (m .loop-end .result))
+span m P known o = m .loop-end .ensures .1 P (known .section) o
+
+reduction-is : (m : tie.After-is-pointer-reduction Inv-loop μ-loop) (P : Plan) → (let a = m .before .before .before .before .before .before .before in
+    Known a P → Is (opens P (a .args .f)) → m .is-pointer-reduction .result ≡ pointerReduction P (a .args .f) (m .before .before .loop .s))
+reduction-is m P known o =
+    let l = m .before .before .loop in
+    let w = span (m .before .before .before) P known o in
+    let lt = m .before .loop-test .taken in
+    rw (← w .own (l .s) (l .inv .0) lt) (m .is-pointer-reduction .ensures P known (omega (arith, w .bound, lt)))
 
 loop-holds : tie.Need-loop-holds Inv-loop μ-loop
-loop-holds c = (search needs, λ P known. none-before _)
+loop-holds c = (search needs, λ P known o. none-before-loop P _ _ (other-reduction P _))
 
 returns : tie.Need-returns Inv-loop μ-loop
 unfolding reducesThroughPointer pointerReduction
 returns c =
-    λ P known. sym (among {f = pointerReduction P _} (_, rw (← count-of-plan P (known .section)) (c .before .before .loop-test .taken), sym (c .before .is-pointer-reduction .ensures P known) ∙ c .if1 .taken))
+    λ P known o. sym (among {f = pointerReduction P _} (_, omega (arith, span (c .before .before .before .before) P known o .bound, c .before .before .loop-test .taken), sym (reduction-is (c .before) P known o) ∙ c .if1 .taken))
 
 loop-again : tie.Need-loop-again Inv-loop μ-loop
 loop-again c =
-    (search needs, λ P known. none-next _ _ (c .before .before .before .loop .inv .1 P known) (sym (c .before .is-pointer-reduction .ensures P known) ∙ c .if1 .left))
+    (search needs, λ P known o. none-next _ _ (c .before .before .before .loop .inv .1 P known o) (sym (reduction-is (c .before) P known o) ∙ c .if1 .left))
 
 returns-2 : tie.Need-returns-2 Inv-loop μ-loop
 unfolding reducesThroughPointer pointerReduction
 returns-2 c =
-    λ P known. sym (rw (← count-of-plan P (known .section)) (none-at-end (pointerReduction P _) _ _ (c .before .loop .inv .0) (c .loop-test .left) (c .before .loop .inv .1 P known)))
+    λ P known o. sym (none-after-loop P _ (pointerReduction P _) (other-reduction P _) (span (c .before .before) P known o) (c .loop-test .left) (c .before .loop .inv .1 P known o))
 
 pub reduces-through-pointer-spec : {M : Type 1} → statement M
 reduces-through-pointer-spec =
@@ -44,6 +61,7 @@ reduces-through-pointer-spec =
     (tie.spec
     Inv-loop
     μ-loop
+    (λ c κs. search needs)
     loop-holds
     (λ c κs. search needs)
     returns

@@ -15,4 +15,4 @@ past c =
     sym (List·getD-eq-default table 0 h)
 
 pub definition-of-spec : {M : Type 1} → statement M
-definition-of-spec = tie.close (tie.spec (λ c. search needs) (λ c. search needs) (λ c. refl) past)
+definition-of-spec = tie.close (tie.spec (λ c. search needs) (λ c. refl) past)

@@ -4,8 +4,8 @@ use Prim.Native.Nat.{ℕ, _+_, _≤_, _<_}
 use native.Mathlib.Omega.{arith}
 use lib.ListN.{set}
 use Rattle.loops.specs.Tables.{loopParts, StatementTables}
-use Rattle.loops.proofs.Tracking.{enters, operand-most, operand-value, region-value, centered-value, loop-value}
-use Rattle.loops.proofs.Depends.{operand-from, kind-from, region-at-from, centered-at-from}
+use Rattle.loops.proofs.Tracking.{enters, operand-most, operand-value, region-value, centered-value}
+use Rattle.loops.proofs.Depends.{operand-from, region-at-from, centered-at-from}
 use mathlib.Core.Path.{_≡_, ap, _∙_}
 use Rattle.model.specs.Statements.{operandDefinition, variableRegion}
 use borrow.Author.Needs.{needs}
@@ -28,46 +28,44 @@ operand-earlier m = rw (operand-is m) (operand-most _ _)
 later : {a b : ℕ} → a ≤ b → a < b + 1
 later h = omega arith
 
-entered : (m : tie.After-loop-of) → (
-    let a = m .before .before .before .before .before .before .before .before .before .before .before .before .before .args in
+entered : (m : tie.After-is-centered) → (
+    let a = m .before .before .before .before .before .before .before .before .before .before .before .args in
     StatementTables (loopParts (now (a .regions)) (now (a .maps)) (now (a .statements))) (a .s + 1)
-    (set (now (a .operands)) (a .s) (m .before .before .before .before .before .before .before .before .definition-of .result))
-    (set (now (a .variable-regions)) (a .s) (m .before .before .before .before .before .variable-region .result))
-    (set (now (a .centered)) (a .s) (m .before .before .is-centered .result))
-    (set (now (a .loops)) (a .s) (m .loop-of .result)))
+    (set (now (a .operands)) (a .s) (m .before .before .before .before .before .before .definition-of .result))
+    (set (now (a .variable-regions)) (a .s) (m .before .before .before .variable-region .result))
+    (set (now (a .centered)) (a .s) (m .is-centered .result)))
 entered m =
-    let start = m .before .before .before .before .before .before .before .before .before .before .before .before .before in
+    let start = m .before .before .before .before .before .before .before .before .before .before .before in
     let R = now (start .args .regions) in
     let M = now (start .args .maps) in
     let S = now (start .args .statements) in
     let s = start .args .s in
     let tables = start .pre .tables in
-    let o = operand-is (m .before .before .before .before .before .before .before .before) in
+    let o = operand-is (m .before .before .before .before .before .before) in
     enters _ _ (start .pre) o
-    (m .before .before .before .before .before .variable-region .ensures ∙ (region-at-from R M S s _ ∙ region-value (loopParts R M S) s _ _ _ (tables .regions-are) o (m .before .before .before .before .before .before .earlier-number .ensures)))
-    (m .before .before .is-centered .ensures ∙ (centered-at-from R M S s _ ∙ centered-value (loopParts R M S) s _ _ _ (tables .centers-are) o (m .before .before .before .earlier-flag .ensures)))
-    (rw (m .loop-of .ensures, m .before .kind-at .ensures, kind-from R M S) (loop-value (loopParts R M S) s _ (start .pre .opened-is)))
+    (m .before .before .before .variable-region .ensures ∙ (region-at-from R M S s _ ∙ region-value (loopParts R M S) s _ _ _ (tables .regions-are) o (m .before .before .before .before .earlier-number .ensures .0)))
+    (m .is-centered .ensures ∙ (centered-at-from R M S s _ ∙ centered-value (loopParts R M S) s _ _ _ (tables .centers-are) o (m .before .earlier-flag .ensures)))
 
-mul-region : tie.Need-mul-region
-mul-region c = omega (arith, operand-earlier (c .before .before .before .before .before .before .before .before), c .before .before .before .before .before .before .before .before .before .before .before .before .before .pre .few)
+cast-copied-region : tie.Need-cast-copied-region
+cast-copied-region c = record { fits = c .earlier-number .ensures .1 (omega arith) }
 
-element-copy-out-region : tie.Need-element-copy-out-region
-element-copy-out-region c = omega (arith, operand-earlier (c .before .before .before .before .before .before .before .before), c .before .before .before .before .before .before .before .before .before .before .before .before .before .pre .few)
+element-copy-out-number-of : tie.Need-element-copy-out-number-of
+element-copy-out-number-of c = omega (arith, operand-earlier (c .before .before .before .before .before .before), c .before .before .before .before .before .before .before .before .before .before .before .pre .few)
 
 check-statement-requires : tie.Need-check-statement-requires
 check-statement-requires c κs =
-    let start = c .before .before .before .before .before .before .before .before .before .before .before .before .before .before in
-    let m = c .before .before .before .before .before .before .before .before .before in
+    let start = c .before .before .before .before .before .before .before .before .before .before .before .before .before in
+    let m = c .before .before .before .before .before .before .before .before in
     record {
       variables-are = start .pre .tracks .count-is;
       operand = record {
         few = start .pre .few;
-        region-is = entered (c .before) .regions-are .holds _ (later (operand-earlier m)) ∙ ap (variableRegion _) (operand-is m);
+        region-is = c .number-of .ensures .0 ∙ (entered (c .before .before) .regions-are .holds _ (later (operand-earlier m)) ∙ ap (variableRegion _) (operand-is m));
       };
     }
 
 returns : tie.Need-returns
-returns c = record { outcome = c .check-statement .ensures; tables = entered (c .before .before) }
+returns c = record { outcome = c .check-statement .ensures; tables = entered (c .before .before .before) }
 
 pub read-statement-spec : {M : Type 1} → statement M
 read-statement-spec =
@@ -78,17 +76,13 @@ read-statement-spec =
     (λ c. search needs)
     (λ c. search needs)
     (λ c κs. search needs)
-    (λ c κs. search needs)
-    (λ c. search needs)
-    (λ c. search needs)
-    (λ c κs. search needs)
+    cast-copied-region
     (λ c κs. search needs)
     (λ c. search needs)
     (λ c κs. search needs)
     (λ c κs. search needs)
     (λ c. search needs)
-    (λ c. search needs)
-    mul-region
-    element-copy-out-region
+    element-copy-out-number-of
+    (λ c κs. search needs)
     check-statement-requires
     returns)

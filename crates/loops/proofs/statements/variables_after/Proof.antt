@@ -15,9 +15,6 @@ returns : tie.Need-returns
 unfolding variablesAfter pick
 returns c = rw (sym (c .before .opens-loop .ensures) ∙ c .if1 .taken)
 
-mul-after : tie.Need-mul-after
-mul-after c = omega (arith, room c)
-
 element-write-after-2 : tie.Need-element-write-after-2
 element-write-after-2 c = room c
 
@@ -40,7 +37,6 @@ variables-after-spec =
     (λ c. search needs)
     returns
     (λ c κs. search needs)
-    mul-after
     element-write-after-2
     add-after
     returns-2

@@ -19,7 +19,7 @@ unfolding _<?_ _==_
 returns-2 c =
     λ P known e. rw (c .and-then .ensures, c .before .require2 .ensures, c .before .before .before .require .ensures)
     (assigned-check P _ (sym (symbol-of-plan P (known .variables-known .section) _) ∙ (sym (c .before .before .before .before .before .before .before .has-symbol .ensures) ∙ not-false _ (c .before .before .before .before .before .before .if1 .left)))
-    (now (c .before .before .before .before .before .before .before .before .before .before .before .before .before .args .node-regions)) (node-of-plan P _ (known .section) e (c .before .before .before .before .before .byte-at .ensures .0)) (known .nodes-are) (c .before .before .number-at .ensures) (known .node-regions-are) (c .before .before .before .before .symbol-region .ensures P (known .variables-known)) (ap (6 * 256 +_) e))
+    (now (c .before .before .before .before .before .before .before .before .before .before .before .before .before .args .node-regions)) (node-of-plan P _ (known .section) e (c .before .before .before .before .before .byte-at .ensures .0)) (known .nodes-are) (c .before .before .byte-at2 .ensures .0) (known .node-regions-are) (c .before .before .before .before .symbol-region .ensures P (known .variables-known)) (ap (6 * 256 +_) e))
 
 pub check-assignment-spec : {M : Type 1} → statement M
 check-assignment-spec =

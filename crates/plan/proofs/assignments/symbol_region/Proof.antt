@@ -13,7 +13,7 @@ returns c =
 returns-2 : tie.Need-returns-2
 returns-2 c =
     λ P known. access-region P _ known (rw (← count-of-plan P (known .section)) (c .before .before .before .before .before .before .before .before .pre .inside))
-    (sym (opens-of-plan P _ (known .section) (c .before .before .before .before .kind-at .ensures) (c .before .before .before .opens-loop .ensures)) ∙ c .before .before .if1 .left) (c .before .number-at .ensures) (c .number-at2 .ensures)
+    (sym (opens-of-plan P _ (known .section) (c .before .before .before .before .kind-at .ensures) (c .before .before .before .opens-loop .ensures)) ∙ c .before .before .if1 .left) (c .before .byte-at2 .ensures .0) (c .byte-at3 .ensures .0)
 
 pub symbol-region-spec : {M : Type 1} → statement M
 symbol-region-spec =

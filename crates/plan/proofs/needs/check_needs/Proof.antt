@@ -1,12 +1,25 @@
 -- The needs as listed are settled as the definition checks them. Assumes nothing.
-use mathlib.Core.Path.{_∙_}
+use Prim.Native.Nat.{_≤_}
+use mathlib.Core.Path.{_≡_, sym, _∙_}
+use native.Mathlib.Omega.{arith}
 use borrow.Author.Needs.{needs}
-use Rattle.plan.proofs.Settling.{handed-settled}
+use Rattle.model.specs.Layout.{Plan, nodeCount}
+use Rattle.loops.proofs.Pairs.{count-of-plan}
+use Rattle.plan.proofs.Settling.{all-settled}
 use Rattle.plan.proofs.needs.check_needs.Statement.{statement}
 use Rattle.plan.proofs.needs.check_needs.Tie as tie
 
 returns : tie.Need-returns
-returns c = c .settle .ensures ∙ handed-settled _ _ _ _ (c .before .list-needs .ensures)
+returns c =
+    λ P known. let few : nodeCount P ≤ 48 = omega (arith, c .before .before .before .before .before .before .before .before .before .before .pre .few-nodes, known .sources .bounds .numbered .count-is) in
+    c .settle .ensures ∙ rw (count-of-plan P (known .sources .pointers .section), known .steps-are) (all-settled P (known .concluded) few (c .before .before .before .list-needs .ensures .1 P (known .sources)))
 
 pub check-needs-spec : {M : Type 1} → statement M
-check-needs-spec = tie.close (tie.spec (λ c κs. search needs) (λ c. search needs) (λ c κs. search needs) returns)
+check-needs-spec =
+    tie.close
+    (tie.spec
+    (λ c κs. search needs)
+    (λ c. sym (c .before .before .list-needs .ensures .0))
+    (λ c. search needs)
+    (λ c κs. search needs)
+    returns)

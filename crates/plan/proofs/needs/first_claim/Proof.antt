@@ -1,6 +1,7 @@
 -- By the tests of the kind and of the bound. Assumes nothing.
 use mathlib.Core.Path.{_≡_, sym, _∙_}
 use mathlib.Core.Bool.{false}
+use native.Mathlib.Omega.{arith}
 use borrow.Author.Needs.{needs}
 use borrow.Author.Tests.{not-true, not-false, lt-ltb, le-ltb}
 use Rattle.model.specs.Tests.{_<?_, pick}
@@ -17,7 +18,7 @@ access-is m = rw (m .is-access .ensures, m .before .access-of .ensures)
 
 returns : tie.Need-returns
 unfolding firstClaim pick
-returns c = rw (sym (c .before .opens-loop .ensures) ∙ c .if1 .taken)
+returns c = rw (sym (c .before .before .opens-loop .ensures) ∙ c .before .if1 .taken) (c .complete-number .ensures)
 
 returns-2 : tie.Need-returns-2
 unfolding firstClaim pick
@@ -26,21 +27,31 @@ returns-2 c = rw (no-loop (c .before .before .before), access-is (c .before) ∙
 returns-3 : tie.Need-returns-3
 unfolding firstClaim pick _<?_
 returns-3 c =
-    rw (no-loop (c .before .before .before .before), access-is (c .before .before) ∙ not-false _ (c .before .if2 .left), lt-ltb _ _ (c .if3 .taken))
+    rw (no-loop (c .before .before .before .before .before), access-is (c .before .before .before) ∙ not-false _ (c .before .before .if2 .left), lt-ltb _ _ (c .before .if3 .taken))
+    (c .subset-number .ensures)
 
 returns-4 : tie.Need-returns-4
 unfolding firstClaim pick _<?_
 returns-4 c =
     rw (no-loop (c .before .before .before .before), access-is (c .before .before) ∙ not-false _ (c .before .if2 .left), le-ltb _ _ (c .if3 .left))
 
+subset-number-requires : tie.Need-subset-number-requires
+subset-number-requires c κs =
+    let parts = c .before .before .before .before .before .before .pre in
+    let below = c .if3 .taken in
+    let few = parts .few-nodes in
+    (omega arith, parts .small-node)
+
 pub first-claim-spec : {M : Type 1} → statement M
 first-claim-spec =
     tie.close
     (tie.spec
     (λ c κs. search needs)
+    (λ c κs. search needs)
     returns
     (λ c κs. search needs)
     (λ c κs. search needs)
     returns-2
+    subset-number-requires
     returns-3
     returns-4)

@@ -9,15 +9,16 @@ use borrow.Author.Needs.{needs}
 use Rattle.plan.proofs.needs.needs_disjoint.Statement.{statement}
 use Rattle.plan.proofs.needs.needs_disjoint.Tie as tie
 
-opens-is : (m : tie.After-opens-loop) (P : Plan) → P .statements ≡ now (m .before .before .before .before .before .before .args .statements)
-    → opens P (m .before .before .before .before .before .before .args .s) ≡ m .opens-loop .result
+opens-is : (m : tie.After-opens-loop) (P : Plan) → P .statements ≡ now (m .before .before .before .before .before .args .statements)
+    → opens P (m .before .before .before .before .before .args .s) ≡ m .opens-loop .result
 unfolding opens
 opens-is m P section = rw (m .opens-loop .ensures, kind-of-plan P section _ (m .before .kind-at .ensures))
 
 returns : tie.Need-returns
 unfolding _and_
 returns c =
-    λ P known. rw (opens-is (c .before .before) P (known .section) ∙ c .before .if1 .taken) (c .reduces-through-pointer .ensures P known)
+    λ P known. let own = opens-is (c .before .before) P (known .section) ∙ c .before .if1 .taken in
+    rw own (c .reduces-through-pointer .ensures P known own)
 
 returns-2 : tie.Need-returns-2
 unfolding _and_

@@ -1,8 +1,7 @@
 -- Section 6, then the steps and the needs. Assumes nothing.
 use mathlib.Core.Path.{sym, _∙_}
-use Rattle.plan.proofs.Known.{assignments-known}
+use Rattle.plan.proofs.Known.{assignments-known, steps-ready}
 use Rattle.plan.proofs.Stages.{stage-passed, stage-refused, then-assoc}
-use Rattle.plan.proofs.Handed.{needs-known}
 use borrow.Author.Needs.{needs}
 use Rattle.plan.proofs.records.check_from_assignments.Statement.{statement}
 use Rattle.plan.proofs.records.check_from_assignments.Tie as tie
@@ -10,18 +9,17 @@ use Rattle.plan.proofs.records.check_from_assignments.Tie as tie
 returns : tie.Need-returns
 returns c =
     let assigned = c .before .before .before in
-    let start = assigned .before .before .before .before .before .before .before .before .before .before .before .before in
+    let start = assigned .before .before .before .before .before .before .before .before .before .before .before in
     sym (sym (then-assoc _ _ _) ∙ stage-refused _ (assigned .check-assignments .ensures _ (assignments-known (start .pre))) (c .before .refusal .given .1))
 
 check-from-steps-requires : tie.Need-check-from-steps-requires
 check-from-steps-requires c κs =
-    let start = c .before .before .before .before .before .before .before .before .before .before .before .before .before .before in
-    needs-known _ _ _ _ _ _ _ (start .pre)
+    steps-ready (c .before .before .before .before .before .before .before .before .before .before .before .before .before .pre)
 
 returns-2 : tie.Need-returns-2
 returns-2 c =
     let assigned = c .before .before .before in
-    let start = assigned .before .before .before .before .before .before .before .before .before .before .before .before in
+    let start = assigned .before .before .before .before .before .before .before .before .before .before .before in
     sym (
     sym (then-assoc _ _ _)
     ∙ stage-passed (assigned .check-assignments .ensures _ (assignments-known (start .pre))) (c .before .enum-told .given .1)

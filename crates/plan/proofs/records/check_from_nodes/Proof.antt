@@ -13,14 +13,14 @@ returns c =
 
 check-from-assignments-requires : tie.Need-check-from-assignments-requires
 check-from-assignments-requires c κs =
-    let told = c .before .before in
+    let told = c .before .before .before .before in
     let nodes = told .before .before in
-    let start = nodes .before .before .before .before .before .before .before .before .before .before .before .before in
-    nodes-known _ _ _ _ _ _ _ (start .pre) (nodes .check-nodes .ensures .regions (told .enum-told .given .1))
+    let start = nodes .before .before .before .before .before .before .before .before .before .before .before in
+    nodes-known _ _ _ _ _ _ _ (told .enum-told .given .1) (nodes .check-nodes .ensures) (start .pre)
 
 returns-2 : tie.Need-returns-2
 returns-2 c =
-    let told = c .before .before .before in
+    let told = c .before .before .before .before .before in
     sym (
     stage-passed (told .before .before .check-nodes .ensures .outcome ∙ nodes-handed _ _ _ _ _ _ _) (told .enum-told .given .1)
     ∙ sym (c .check-from-assignments .ensures ∙ assignments-handed _ _ _ _ _ _ _)

@@ -16,7 +16,7 @@ returns c =
 
 check-from-nodes-requires : tie.Need-check-from-nodes-requires
 check-from-nodes-requires c κs =
-    let told = c .before .before .before .before .before .before .before .before in
+    let told = c .before .before .before .before .before .before in
     let checked = told .before .before in
     let start = checked .before .before .before .before .before .before .before .before in
     record {
@@ -26,7 +26,7 @@ check-from-nodes-requires c κs =
 
 returns-2 : tie.Need-returns-2
 returns-2 c =
-    let told = c .before .before .before .before .before .before .before .before .before in
+    let told = c .before .before .before .before .before .before .before in
     sym (
     sym (then-assoc _ _ _)
     ∙ stage-passed (told .before .before .check-statements-and-loops .ensures .outcome ∙ loops-handed _ _ _ _ _ _ _) (told .enum-told .given .1)
@@ -41,7 +41,6 @@ check-from-statements-spec =
     (λ c. search needs)
     (λ c. search needs)
     returns
-    (λ c. search needs)
     (λ c. search needs)
     (λ c. search needs)
     (λ c. search needs)

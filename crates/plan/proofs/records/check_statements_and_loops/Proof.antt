@@ -12,14 +12,14 @@ use Rattle.plan.proofs.records.check_statements_and_loops.Tie as tie
 -- the tables as the check of the statements leaves them
 tables : (told : tie.After-enum-told) →
     (let last = told .before .before .check-statements .last .1 .1 .1 in
-    let a = told .before .before .before .before .before .before .before .before .before .before .args in
+    let a = told .before .before .before .before .before .before .before .before .before .args in
     let P = loopParts (now (a .regions)) (now (a .maps)) (now (a .statements)) in
-    StatementTables P (statementCount P) (last .0) (last .1 .0) (last .1 .1 .0) (last .1 .1 .1 .0))
+    StatementTables P (statementCount P) (last .0) (last .1 .0) (last .1 .1 .0))
 tables told = told .before .before .check-statements .ensures .tables (told .enum-told .given .1)
 
 returns : tie.Need-returns
 returns c =
-    let told = c .before .before .before .before .before in
+    let told = c .before .before .before .before in
     record {
       outcome = c .check-loops .ensures _ (record { section = refl; tables = tables told }) ∙ sym (stage-passed (told .before .before .check-statements .ensures .outcome) (told .enum-told .given .1));
       tables = λ h. tables told;
@@ -41,7 +41,6 @@ check-statements-and-loops-spec =
     (λ c. sym (tables (c .before) .operands-are .room))
     (λ c. sym (tables (c .before .before) .regions-are .room))
     (λ c. sym (tables (c .before .before .before) .centers-are .room))
-    (λ c. sym (tables (c .before .before .before .before) .loops-are .room))
     (λ c κs. search needs)
     (λ c. search needs)
     returns

@@ -1,8 +1,8 @@
 -- By the two cases of the outcome. Assumes nothing.
 use borrow.Author.Needs.{needs}
 use Rattle.model.specs.Outcomes.{conclude}
-use Rattle.evaluate.proofs.conclude.Statement.{statement}
-use Rattle.evaluate.proofs.conclude.Tie as tie
+use Rattle.layout.proofs.outcomes.conclude.Statement.{statement}
+use Rattle.layout.proofs.outcomes.conclude.Tie as tie
 
 returns : tie.Need-returns
 unfolding conclude

@@ -1,0 +1,128 @@
+-- The statements of a loop stand together, from its FOR to the next, so that a pass over those alone decides. Assumes nothing.
+use Prim.Native.Nat.{ℕ, zero, suc, _+_, _≤_, _<_}
+use mathlib.Core.Path.{_≡_, refl, sym, _∙_}
+use mathlib.Core.Logic.{_⊎_, inl, inr}
+use mathlib.Core.Bool.{Bool, true, false}
+use native.Mathlib.Omega.{arith}
+use lib.Dec.{ltb}
+use borrow.Author.Tests.{ltb-true, ltb-false}
+use Rattle.model.specs.Tests.{Is, any, every, pick}
+use Rattle.model.specs.Layout.{Plan, statementCount}
+use Rattle.model.specs.Statements.{opens, loop, loopBefore}
+use Rattle.model.proofs.Tests.{falsum, fails, refuted, pick-true, pick-false, some-of, among, every-at, every-of}
+use Rattle.loops.specs.Loops.{LoopSpan}
+
+-- a number is below a bound or not
+side : (s t : ℕ) → (s < t) ⊎ (t ≤ s)
+side s t = go (ltb s t) refl
+  where
+    go : (b : Bool) → ltb s t ≡ b → (s < t) ⊎ (t ≤ s)
+    go true e = inl (ltb-true s t e)
+    go false e = inr (ltb-false s t e)
+
+module _ (P : Plan) where
+  -- a loop opens at a statement or before it
+  loop-most : (s : ℕ) → loop P s ≤ s
+  unfolding loopBefore pick
+  loop-most zero = go (opens P 0)
+    where
+      go : (b : Bool) → pick b 0 0 ≤ 0
+      go true = omega arith
+      go false = omega arith
+  loop-most (suc s) = go (opens P (suc s)) (loop-most s)
+    where
+      go : (b : Bool) → loop P s ≤ s → pick b (suc s) (loop P s) ≤ suc s
+      go true h = omega arith
+      go false h = omega arith
+
+  opened : (s : ℕ) → Is (opens P s) → loop P s ≡ s
+  unfolding loopBefore
+  opened s o = pick-true (opens P s) s (loopBefore P s) o
+
+  kept : (s : ℕ) → opens P s ≡ false → loop P s ≡ loopBefore P s
+  unfolding loopBefore
+  kept s o = pick-false (opens P s) s (loopBefore P s) o
+
+  -- from a FOR on, loops open there or later
+  before-least : (f s : ℕ) → Is (opens P f) → f < s → f ≤ loopBefore P s
+  before-least f zero o lt = absurd (omega arith)
+  before-least f (suc s) o lt = go (opens P s) refl (before-least f s o)
+    where
+      go : (b : Bool) → opens P s ≡ b → (f < s → f ≤ loopBefore P s) → f ≤ loop P s
+      go true e h = rw (opened s e) (omega arith)
+      go false e h =
+          let other : ¬ (f ≡ s) = λ same. falsum (sym e ∙ rw same at o) in
+          rw (kept s e) (h (omega arith))
+
+  loop-least : (f s : ℕ) → Is (opens P f) → f ≤ s → f ≤ loop P s
+  loop-least f s o le = before-least f (suc s) o (omega arith)
+
+  -- the statements from FOR f to before t are of its loop
+  abbrev pub Own : ℕ → ℕ → Type 0
+  Own f t = (s : ℕ) → f ≤ s → s < t → loop P s ≡ f
+
+  pub own-start : (f : ℕ) → Is (opens P f) → Own f (f + 1)
+  own-start f o s a b = let e : s ≡ f = omega arith in rw e (opened f o)
+
+  pub own-next : (f t : ℕ) → f < t → opens P t ≡ false → Own f t → Own f (t + 1)
+  own-next f zero lt o own = absurd (omega arith)
+  own-next f (suc t) lt o own =
+      λ s a b. elim (side s (suc t)) [
+        | inl l ↦ own s a l
+        | inr g ↦ let e : s ≡ suc t = omega arith in rw e (kept (suc t) o ∙ own t (omega arith) (omega arith))
+      ]
+
+  -- the loop ends before the next FOR, or at the last statement
+  module _ (f t : ℕ) (bound : t ≤ statementCount P) (own : Own f t) where
+    pub span-to-for : f < t → Is (opens P t) → LoopSpan P f t
+    span-to-for lt o =
+        record {
+          bound = bound;
+          own = own;
+          only = λ s inside e. (omega (arith, loop-most s), before s e);
+        }
+      where
+        before : (s : ℕ) → loop P s ≡ f → s < t
+        before s e = let m : ¬ (t ≤ s) = λ le. absurd (omega (arith, loop-least t s o le)) in omega arith
+
+    pub span-to-end : statementCount P ≤ t → LoopSpan P f t
+    span-to-end le = record { bound = bound; own = own; only = λ s inside e. (omega (arith, loop-most s), omega arith) }
+
+-- what holds of each statement of other loops holds of each before the loop, and of all once it does to the loop's end
+module _ (P : Plan) (f : ℕ) (test : ℕ → Bool) where
+  earlier-loop : (s : ℕ) → s < f → loop P s ≡ f → ⊥
+  earlier-loop s lt e = absurd (omega (arith, loop-most P s))
+
+  later-loop : {end : ℕ} → LoopSpan P f end → (s : ℕ) → s < statementCount P → end ≤ s → loop P s ≡ f → ⊥
+  later-loop span s lt le e = absurd (omega (arith, span .only s lt e .1))
+
+  none : (n : ℕ) → ((s : ℕ) → s < n → test s ≡ false) → any n test ≡ false
+  none n h = fails (refuted (λ y. let w = some-of y in falsum (sym (h (w .0) (w .1)) ∙ w .2)))
+
+  module _ (others : (s : ℕ) → (loop P s ≡ f → ⊥) → Is (test s)) where
+    pub every-before-loop : Is (every f test)
+    every-before-loop = every-of f test (λ s lt. others s (earlier-loop s lt))
+
+    pub every-after-loop : {end t : ℕ} → LoopSpan P f end → end ≤ t → Is (every t test) → Is (every (statementCount P) test)
+    every-after-loop {t = t} span le h = every-of (statementCount P) test at
+      where
+        at : (s : ℕ) → s < statementCount P → Is (test s)
+        at s lt =
+            elim (side s t) [
+              | inl l ↦ every-at t test h s l
+              | inr g ↦ others s (later-loop span s lt (omega arith))
+            ]
+
+  module _ (others : (s : ℕ) → (loop P s ≡ f → ⊥) → test s ≡ false) where
+    pub none-before-loop : any f test ≡ false
+    none-before-loop = none f (λ s lt. others s (earlier-loop s lt))
+
+    pub none-after-loop : {end t : ℕ} → LoopSpan P f end → end ≤ t → any t test ≡ false → any (statementCount P) test ≡ false
+    none-after-loop {t = t} span le h = none (statementCount P) at
+      where
+        at : (s : ℕ) → s < statementCount P → test s ≡ false
+        at s lt =
+            elim (side s t) [
+              | inl l ↦ fails (refuted (λ y. falsum (sym h ∙ among (s, l, y))))
+              | inr g ↦ others s (later-loop span s lt (omega arith))
+            ]
