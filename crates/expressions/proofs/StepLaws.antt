@@ -89,14 +89,13 @@ pub record Said (steps : Bytes) (step : Step) (premises : Premises) : Type 0 whe
   pub p-disjoint : {x number : ℕ} → number ≡ disjointNumber x → x < 256 → (premises .p == number) ≡ concludesDisjoint (stepsOnly steps) (step .p) x
   pub p-complete : {x number : ℕ} → number ≡ completeNumber x → x < 256 → (premises .p == number) ≡ concludesComplete (stepsOnly steps) (step .p) x
 
-pub said : {steps : Bytes} {step : Step} {premises : Premises} → KnownPremises steps step premises → ((i : ℕ) → getD steps i 0 < 256)
-    → Said steps step premises
-said {steps} {step} known bytes =
+pub said : {steps : Bytes} {step : Step} {premises : Premises} → KnownPremises steps step premises → Said steps step premises
+said {steps} {step} known =
     record {
-      p-subset = says-subset (stepsOnly steps) (step .p) bytes (known .p);
-      q-subset = says-subset (stepsOnly steps) (step .q) bytes (known .q);
-      p-disjoint = says-disjoint (stepsOnly steps) (step .p) bytes (known .p);
-      p-complete = says-complete (stepsOnly steps) (step .p) bytes (known .p);
+      p-subset = says-subset (stepsOnly steps) (step .p) (known .section) (known .p);
+      q-subset = says-subset (stepsOnly steps) (step .q) (known .section) (known .q);
+      p-disjoint = says-disjoint (stepsOnly steps) (step .p) (known .section) (known .p);
+      p-complete = says-complete (stepsOnly steps) (step .p) (known .section) (known .p);
     }
 
 pub concluded : {P : Plan} {n : ℕ} {table : List ℕ} → length table ≡ 128 → ((i : ℕ) → getD (P .steps) i 0 < 256)

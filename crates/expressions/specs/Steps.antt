@@ -67,9 +67,10 @@ pub record PremisesRead (table : List ℕ) (step : Step) (r : Premises) : Type 0
   pub p : r .p ≡ getD table (step .p) 0
   pub q : r .q ≡ getD table (step .q) 0
 
--- a step of bytes, and what its steps p and q conclude
+-- a step of bytes, in a section of bytes, and what its steps p and q conclude
 pub record KnownPremises (steps : Bytes) (step : Step) (premises : Premises) : Type 0 where
   pub bytes : StepBytes step
+  pub section : (i : ℕ) → getD steps i 0 < 256
   pub p : premises .p ≡ stepNumber steps (step .p)
   pub q : premises .q ≡ stepNumber steps (step .q)
 

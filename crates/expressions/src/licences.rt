@@ -15,6 +15,7 @@ use crate::steps::subset_number;
 use layout::bytes::byte_at;
 ghost use mathlib.Core.Path.{_≡_};
 ghost use mathlib.Core.List.{[]};
+ghost use Rattle.model.specs.Bytes.{Bytes};
 ghost use Rattle.model.specs.Lemmas.{licence};
 ghost use Rattle.layout.specs.Parts.{parts};
 ghost use Rattle.expressions.specs.Steps.{StepBytes, KnownStep, KnownPremises, licensedBy};
@@ -73,9 +74,9 @@ fn map_licensed(nodes: &[u8], steps: &[u8], step: Step, premises: Premises) -> b
 }
 
 // Lemmas 15 to 18: DISJ from a larger partition, and by intersection, difference and preimage.
-fn disjoint_licensed(nodes: &[u8], steps: &[u8], step: Step, premises: Premises) -> bool
-    requires { ⌜ KnownPremises (now steps) step premises ⌝ }
-    ensures { λ r. ⌜ r ≡ licensedBy (parts [] [] [] [] (now (nodes .entry)) [] (now (steps .entry))) 15 4 step ⌝ }
+fn disjoint_licensed(nodes: &[u8], step: Step, premises: Premises) -> bool
+    requires { ⌜ StepBytes step ⌝ }
+    ensures { λ r. ⌜ ((steps : Bytes) → KnownPremises steps step premises → r ≡ licensedBy (parts [] [] [] [] (now (nodes .entry)) [] steps) 15 4 step) ⌝ }
 {
     let x = node_at(nodes, step.x);
     let y_disjoint = premises.p == disjoint_number(step.y);
@@ -89,15 +90,9 @@ fn disjoint_licensed(nodes: &[u8], steps: &[u8], step: Step, premises: Premises)
 }
 
 // Lemmas 19 and 20: COMP from a smaller partition, and by preimage under a total map.
-fn complete_licensed(
-    maps: &[u8],
-    nodes: &[u8],
-    steps: &[u8],
-    step: Step,
-    premises: Premises,
-) -> bool
-    requires { ⌜ KnownPremises (now steps) step premises ⌝ }
-    ensures { λ r. ⌜ r ≡ licensedBy (parts [] (now (maps .entry)) [] [] (now (nodes .entry)) [] (now (steps .entry))) 19 2 step ⌝ }
+fn complete_licensed(maps: &[u8], nodes: &[u8], step: Step, premises: Premises) -> bool
+    requires { ⌜ StepBytes step ⌝ }
+    ensures { λ r. ⌜ ((steps : Bytes) → KnownPremises steps step premises → r ≡ licensedBy (parts [] (now (maps .entry)) [] [] (now (nodes .entry)) [] steps) 19 2 step) ⌝ }
 {
     let x = node_at(nodes, step.x);
     let totality = byte_at(maps, x.b * 3 + 2);
@@ -125,7 +120,7 @@ pub fn is_licensed(
         1..=5 => leaf_licensed(supplied, nodes, step),
         6..=11 => operator_licensed(nodes, steps, step, premises),
         12..=14 => map_licensed(nodes, steps, step, premises),
-        15..=18 => disjoint_licensed(nodes, steps, step, premises),
-        _ => complete_licensed(maps, nodes, steps, step, premises),
+        15..=18 => disjoint_licensed(nodes, step, premises),
+        _ => complete_licensed(maps, nodes, step, premises),
     }
 }

@@ -40,6 +40,23 @@ module _ (elements : ℕ → Bool) (w : ℕ) where
       (h ∙ ap (λ (e : ℕ). digit (elements e)) here)
       ∙ ap (λ (n : ℕ). number n (λ b. elements (k - 1 + b))) (sym more)
 
+  -- two places at a time: n pairs are left
+  module _ (n r d : ℕ) (q : r ≡ upper elements w (64 * w + 2 * n)) (some : 0 < n) (few : n ≤ 32)
+      (h : d ≡ digit (elements (64 * w + 2 * (n - 1) + 1))) where
+    upper-first : r * 2 + d ≡ upper elements w (64 * w + 2 * n - 1)
+    upper-first =
+        let next : 64 * w + 2 * (n - 1) + 1 ≡ 64 * w + 2 * n - 1 = omega arith in
+        upper-next (64 * w + 2 * n) r d (omega arith) (omega arith) q (h ∙ ap (λ (e : ℕ). digit (elements e)) next)
+
+    pub upper-room-two : (r * 2 + d) * 2 + 1 < 2 ^ 64
+    upper-room-two = upper-room (64 * w + 2 * n - 1) (r * 2 + d) (omega arith) upper-first
+
+    pub upper-two : (e : ℕ) → e ≡ digit (elements (64 * w + 2 * (n - 1))) → (r * 2 + d) * 2 + e ≡ upper elements w (64 * w + 2 * (n - 1))
+    upper-two e g =
+        let next : 64 * w + 2 * n - 1 - 1 ≡ 64 * w + 2 * (n - 1) = omega arith in
+        upper-next (64 * w + 2 * n - 1) (r * 2 + d) e (omega arith) (omega arith) upper-first (g ∙ ap (λ (k : ℕ). digit (elements k)) (sym next))
+        ∙ ap (upper elements w) next
+
   pub upper-all : (k : ℕ) → k ≡ 64 * w → upper elements w k ≡ word elements w
   unfolding upper word
   upper-all k q =

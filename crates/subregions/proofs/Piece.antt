@@ -1,6 +1,6 @@
 -- The eight words of a piece, one after the other, and what each of them is. Assumes nothing.
 use Prim.Native.Nat.{ℕ, _+_, _-_, _*_, _/_, _%_, _^_, _≤_, _<_, min}
-use mathlib.Core.Path.{_≡_, refl, sym, ap, ap₂, _∙_}
+use mathlib.Core.Path.{_≡_, refl, sym, ap, ap₂, _∙_, fun-ext}
 use mathlib.Core.Bool.{Bool, false}
 use mathlib.Core.List.{List}
 use native.Mathlib.Nat.{mul-le-mul-left, mul-le-mul-right, div-add-mod', mod-lt}
@@ -9,14 +9,16 @@ use lib.Bits.{bitAnd, bitOr, and-le-l, or-lt}
 use lib.ListN.{length, getD, set, replicate, length-set, length-replicate, getD-replicate}
 use lib.Seq.{getD-set-other}
 use native.Mathlib.Decide.{decLt}
-use Rattle.model.specs.Tests.{_and_, _or_, _==_, _<?_}
+use borrow.Author.Tests.{ne-eqb}
+use Rattle.model.specs.Tests.{_and_, _or_, _==_, _<?_, pick}
 use Rattle.model.specs.Bytes.{byte, u16}
+use Rattle.model.specs.Nodes.{UNION, INTERSECTION, DIFFERENCE}
 use Rattle.model.specs.Partitions.{Partition}
 use Rattle.model.specs.Words.{bit, holds, number, word, store}
 use Rattle.model.proofs.Words.{bit-zero, bit-number, number-less, is-word, word-same, word-element, holds-bit, holds-kept, store-length, store-next, store-same, store-pieces}
 use Rattle.bitsets.specs.Elements.{upTo, wordAt, PieceOf, combination, combinedBits, combined, masked, listed, bytesBits, reversedBits, leadingTo, through}
 use Rattle.subregions.specs.Operators.{Holding, Targets, Operand, Preimage}
-use Rattle.subregions.specs.Pieces.{pieceWords}
+use Rattle.subregions.specs.Pieces.{pieceWords, combinedPieces, CombinedRoom}
 use Rattle.bitsets.proofs.Bits.{and-swap, bit-and}
 use Rattle.bitsets.proofs.Elements.{added}
 use Rattle.subregions.proofs.Maps.{leading-at, leading-past, leading-none}
@@ -216,6 +218,25 @@ pub masked-is : (size : ℕ) (masks : List ℕ) → PieceOf (upTo size) masks �
 unfolding masked
 masked-is size masks m S T e h same = ap₂ _and_ (mask-holds size masks m e h) same
 
+-- a piece combined from the operands' pieces, which stand before those written
+pub combined-next : (kind size : ℕ) {old words new masks piece : List ℕ} {a b N at : ℕ} → CombinedRoom old a b N at → PieceOf (upTo size) masks
+    → (i : ℕ) → i < N → PiecesWritten old at (combinedPieces old kind a b size) N words i
+    → PieceOf (masked masks (combined kind (holds words (a + i * 8)) (holds words (b + i * 8)))) piece → new ≡ store words (at + i * 8) 8 (wordAt piece)
+    → PiecesWritten old at (combinedPieces old kind a b size) N new (i + 1)
+unfolding combinedPieces combined
+combined-next kind size {old} {words} {new} {masks} {piece} {a} {b} {N} {at} room m i lt written made q =
+    pieces-next old at (combinedPieces old kind a b size) N words new i _ written lt (piece-stored _ piece words new (at + i * 8) made q)
+    (λ e h. masked-is size masks m _ (combined kind (holds old (a + i * 8)) (holds old (b + i * 8))) e h
+    (ap₂ (combination kind)
+    (pieces-before old at _ N words i (a + i * 8) e written (omega (arith, room .left)) h)
+    (pieces-before old at _ N words i (b + i * 8) e written (omega (arith, room .right)) h)))
+
+-- a kind that is neither union nor intersection is combined as a difference
+pub difference-else : (words : List ℕ) (kind a b size : ℕ) → (kind ≡ UNION → ⊥) → (kind ≡ INTERSECTION → ⊥)
+    → combinedPieces words DIFFERENCE a b size ≡ combinedPieces words kind a b size
+unfolding combinedPieces combined combination pick _==_
+difference-else words kind a b size u n = fun-ext (λ i. fun-ext (λ e. rw (ne-eqb kind UNION u, ne-eqb kind INTERSECTION n)))
+
 -- a piece's words within a mask, and a word of 0 behind them
 pub operand-made : (words masks set : List ℕ) (a : ℕ) → length set ≡ 9
     → ((k : ℕ) → k < 8 → getD set k 0 ≡ bitAnd (getD words (a + k) 0) (getD masks k 0)) → getD set 8 0 ≡ 0 → Operand words masks a set
@@ -254,9 +275,7 @@ module _ (words entries masks table set : List ℕ) (start count size a : ℕ) (
   pub preimage-ready : count ≤ 512 → Preimage table set count
   preimage-ready few =
       record {
-        all = t .all;
-        nine = o .nine;
-        small = λ k l. go k l (decLt k count);
+        lookup = record { all = t .all; nine = o .nine; small = λ k l. go k l (decLt k count) };
         few = few;
         past = λ k h l. through-is k l ∙ leading-past count entries start size (holds words a) k h;
       }

@@ -64,9 +64,13 @@ pub record Operand (words masks : List ℕ) (a : ℕ) (set : List ℕ) : Type 0 
   pub spare : holds set 0 512 ≡ false
 
 -- a table of elements, and a set that they may be in; from some place on none of them is
-pub record Preimage (table set : List ℕ) (count : ℕ) : Type 0 where
+pub record Lookup (table set : List ℕ) : Type 0 where
   pub all : length table ≡ 512
   pub nine : length set ≡ 9
   pub small : (k : ℕ) → k < 512 → getD table k 0 ≤ 512
+
+-- and the places from the count on are none of the set's
+pub record Preimage (table set : List ℕ) (count : ℕ) : Type 0 where
+  pub lookup : Lookup table set
   pub few : count ≤ 512
   pub past : (k : ℕ) → count ≤ k → k < 512 → through table set k ≡ false

@@ -12,7 +12,7 @@ ghost use lib.ListN.{length};
 ghost use Rattle.model.specs.Bytes.{u16};
 ghost use Rattle.model.specs.Words.{digit, holds, number, word, store};
 ghost use Rattle.bitsets.specs.Elements.{between, masked, combined, listed, bytesBits, entriesOf, through, wordAt, PieceOf};
-ghost use Rattle.subregions.specs.Operators.{Writing, PieceBytes, Copying, Combining, AddingEntries, EntriesAdded, Image, Targets, Operand, Preimage};
+ghost use Rattle.subregions.specs.Operators.{Writing, PieceBytes, Copying, Combining, AddingEntries, EntriesAdded, Image, Targets, Operand, Lookup, Preimage};
 
 // An entry of a table as a number.
 fn wide(x: u16) -> usize
@@ -137,17 +137,26 @@ fn member(set: &[u64], e: usize) -> u64
     (set[e / 64] >> (e % 64)) & 1
 }
 
-// Word w of the places whose element is in the set, from its highest place down.
-fn preimage_word(table: &[u16], set: &[u64], count: usize, w: usize) -> u64
-    requires { ⌜ (64 * w < count) × Preimage (now table) (now set) count ⌝ }
+// Whether a set holds the element that a table has for place k: 1 or 0.
+fn member_at(table: &[u16], set: &[u64], k: usize) -> u64
+    requires { ⌜ (k < 512) × Lookup (now table) (now set) ⌝ }
+    ensures { λ r. ⌜ r ≡ digit (through (now (table .entry)) (now (set .entry)) k) ⌝ }
+{
+    member(set, wide(table[k]))
+}
+
+// Word w of the places whose element is in the set, two places at a time from the highest down.
+fn preimage_word(table: &[u16], set: &[u64], w: usize) -> u64
+    requires { ⌜ (w < 8) × Lookup (now table) (now set) ⌝ }
     ensures { λ r. ⌜ r ≡ word (through (now (table .entry)) (now (set .entry))) w ⌝ }
 {
-    let first = 64 * w;
-    let mut k = least(count, first + 64);
+    let mut pairs = 32;
     let mut result: u64 = 0;
-    while k > first {
-        k -= 1;
-        result = result * 2 + member(set, wide(table[k]));
+    while pairs > 0 {
+        pairs -= 1;
+        let place = 64 * w + 2 * pairs;
+        let upper = result * 2 + member_at(table, set, place + 1);
+        result = upper * 2 + member_at(table, set, place);
     }
     result
 }
@@ -160,7 +169,7 @@ pub fn preimage_piece(table: &[u16], set: &[u64], count: usize) -> [u64; 8]
     let mut piece = [0; 8];
     let mut w = 0;
     while 64 * w < count {
-        piece[w] = preimage_word(table, set, count, w);
+        piece[w] = preimage_word(table, set, w);
         w += 1;
     }
     piece

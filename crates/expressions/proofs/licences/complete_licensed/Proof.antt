@@ -15,12 +15,12 @@ returns c =
     let one = two .before .before in
     let start = one .before .before .before in
     let x = start .node-at .ensures in
-    let known = start .before .before .before .before .pre in
-    let s = said known (λ i. start .before .shared-slice-known3 .given i .fits) in
+    let own = start .before .before .before .pre in
+    λ steps known. let s = said known in
     rw (
       s .p-complete (three .complete-number2 .ensures) (x .small-a),
-      s .q-subset (two .subset-number .ensures) (known .bytes .y) (known .bytes .x),
-      s .p-complete (one .complete-number .ensures) (known .bytes .y),
+      s .q-subset (two .subset-number .ensures) (own .y) (own .x),
+      s .p-complete (one .complete-number .ensures) (own .y),
       one .before .byte-at .ensures .0,
       node-is x,
     )

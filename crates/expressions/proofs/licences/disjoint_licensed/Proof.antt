@@ -16,13 +16,13 @@ returns c =
     let one = two .before .before in
     let start = one .before in
     let x = start .node-at .ensures in
-    let known = start .before .before .before .pre in
-    let s = said known (λ i. start .before .shared-slice-known2 .given i .fits) in
+    let own = start .before .before .pre in
+    λ steps known. let s = said known in
     rw (
       s .p-disjoint (four .disjoint-number3 .ensures) (x .small-b),
       s .p-disjoint (three .disjoint-number2 .ensures) (x .small-a),
-      s .q-subset (two .subset-number .ensures) (known .bytes .x) (known .bytes .y),
-      s .p-disjoint (one .disjoint-number .ensures) (known .bytes .y),
+      s .q-subset (two .subset-number .ensures) (own .x) (own .y),
+      s .p-disjoint (one .disjoint-number .ensures) (own .y),
       node-is x,
     )
 

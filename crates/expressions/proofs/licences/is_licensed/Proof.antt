@@ -17,11 +17,11 @@ returns-3 : tie.Need-returns-3
 returns-3 c = c .map-licensed .ensures ∙ by-map _ _ _ _ _ (omega arith) (omega arith)
 
 returns-4 : tie.Need-returns-4
-returns-4 c = c .disjoint-licensed .ensures ∙ by-disjoint _ _ _ _ _ (omega arith) (omega arith)
+returns-4 c = c .disjoint-licensed .ensures _ (c .before .before .before .before .before .before .before .before .before .before .pre .known) ∙ by-disjoint _ _ _ _ _ (omega arith) (omega arith)
 
 returns-5 : tie.Need-returns-5
 returns-5 c =
-    c .complete-licensed .ensures
+    c .complete-licensed .ensures _ (c .before .before .before .before .before .before .pre .known)
     ∙ by-complete _ _ _ _ _ (⊎-elim (λ w. omega arith) (λ w. omega arith) (c .before .if1 .came)) (omega arith)
 
 pub is-licensed-spec : {M : Type 1} → statement M

@@ -19,7 +19,7 @@ returns c =
     let x = start .node-at .ensures in
     let known = start .before .before .before .pre in
     let middle = read .byte-at .ensures .1 in
-    let s = said known (λ i. start .before .shared-slice-known2 .given i .fits) in
+    let s = said known in
     rw (
       s .p-subset (two .subset-number2 .ensures) (x .small-a) middle,
       s .p-subset (one .subset-number .ensures) (x .small-a) (y .small-a),

@@ -23,7 +23,7 @@ returns c =
     let known = start .before .before .before .pre in
     let own = known .bytes in
     let middle = read .byte-at .ensures .1 in
-    let s = said known (λ i. start .before .shared-slice-known2 .given i .fits) in
+    let s = said known in
     rw (
       s .q-subset (six .subset-number6 .ensures) (own .x) (y .small-b),
       s .p-subset (five .subset-number5 .ensures) (own .x) (y .small-a),

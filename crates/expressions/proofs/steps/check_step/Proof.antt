@@ -23,6 +23,7 @@ is-licensed-requires c κs =
       known =
           record {
             bytes = turn .read .bytes;
+            section = λ i. c .before .before .before .before .shared-slice-known4 .given i .fits;
             p = premises .p ∙ turn .known _ (formed .p);
             q = premises .q ∙ turn .known _ (formed .q);
           };

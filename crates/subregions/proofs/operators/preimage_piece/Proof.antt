@@ -18,7 +18,9 @@ loop-holds : tie.Need-loop-holds Inv-loop μ-loop
 loop-holds c = made-none _
 
 preimage-word-requires : tie.Need-preimage-word-requires Inv-loop μ-loop
-preimage-word-requires c κs = (c .loop-test .taken, c .before .before .before .before .pre)
+preimage-word-requires c κs =
+    let ready = c .before .before .before .before .pre in
+    (omega (arith, c .loop-test .taken, ready .few), ready .lookup)
 
 loop-again : tie.Need-loop-again Inv-loop μ-loop
 loop-again c = made-next _ _ _ _ (c .before .before .loop .inv) (omega (arith, c .before .before .before .before .before .pre .few)) (c .preimage-word .ensures)
