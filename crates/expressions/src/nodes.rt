@@ -1,5 +1,6 @@
 // Section 5: expressions.
 use layout::bytes::byte_at;
+use layout::bytes::number_of;
 use layout::outcomes::and_then;
 use layout::outcomes::require;
 use model::Outcome;
@@ -54,13 +55,6 @@ pub struct CheckedNodes {
     pub numbers: [u32; 48],
 }
 
-// A byte as a number.
-pub fn wide(byte: u8) -> usize
-    ensures { λ r. ⌜ (r ≡ byte) × (r < 256) ⌝ }
-{
-    byte as usize
-}
-
 // The record of node j, of bytes 0 where there is none.
 pub fn node_at(nodes: &[u8], j: usize) -> Node
     requires { ⌜ j * 4 + 3 < 2 ^ 64 ⌝ }
@@ -78,10 +72,10 @@ fn read_node(nodes: &[u8], j: usize) -> Node
     requires { ⌜ j * 4 + 3 < length (now nodes) ⌝ }
     ensures { λ r. ⌜ NodeRead (now (nodes .entry)) j r ⌝ }
 {
-    let kind = wide(nodes[j * 4]);
-    let a = wide(nodes[j * 4 + 1]);
-    let b = wide(nodes[j * 4 + 2]);
-    let unused = wide(nodes[j * 4 + 3]);
+    let kind = number_of(nodes[j * 4]);
+    let a = number_of(nodes[j * 4 + 1]);
+    let b = number_of(nodes[j * 4 + 2]);
+    let unused = number_of(nodes[j * 4 + 3]);
     Node { kind, a, b, unused }
 }
 

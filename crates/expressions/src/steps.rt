@@ -1,7 +1,7 @@
 // Section 7: lemma steps.
 use crate::lemmas::lemma_row;
 use crate::licences::is_licensed;
-use crate::nodes::wide;
+use layout::bytes::number_of;
 use layout::outcomes::require;
 use model::Conclusion;
 use model::Lemma;
@@ -35,11 +35,11 @@ fn step_at(steps: &[u8], t: usize) -> Step
     requires { ⌜ t * 5 + 4 < length (now steps) ⌝ }
     ensures { λ r. ⌜ StepRead (now (steps .entry)) t r ⌝ }
 {
-    let lemma = wide(steps[t * 5]);
-    let x = wide(steps[t * 5 + 1]);
-    let y = wide(steps[t * 5 + 2]);
-    let p = wide(steps[t * 5 + 3]);
-    let q = wide(steps[t * 5 + 4]);
+    let lemma = number_of(steps[t * 5]);
+    let x = number_of(steps[t * 5 + 1]);
+    let y = number_of(steps[t * 5 + 2]);
+    let p = number_of(steps[t * 5 + 3]);
+    let q = number_of(steps[t * 5 + 4]);
     Step { lemma, x, y, p, q }
 }
 

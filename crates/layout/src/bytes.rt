@@ -4,6 +4,13 @@ ghost use Prim.Native.Nat.{_<_};
 ghost use lib.ListN.{getD};
 ghost use Rattle.model.specs.Bytes.{u16};
 
+// A byte as a number.
+pub fn number_of(byte: u8) -> usize
+    ensures { λ r. ⌜ (r ≡ byte) × (r < 256) ⌝ }
+{
+    byte as usize
+}
+
 // The byte at a place; 0 past the end.
 pub fn byte_at(s: &[u8], at: usize) -> usize
     ensures { λ r. ⌜ (r ≡ getD (now (s .entry)) at 0) × (r < 256) ⌝ }

@@ -1,16 +1,10 @@
 // Entries of tables by statement, of the statements before one.
+use layout::bytes::number_of;
 ghost use mathlib.Core.Path.{_≡_};
 ghost use mathlib.Core.Bool.{false};
 ghost use Prim.Native.Nat.{_<_};
 ghost use lib.ListN.{getD};
 ghost use Rattle.model.specs.Recursion.{below};
-
-// A byte as a number.
-pub fn number_of(byte: u8) -> usize
-    ensures { λ r. ⌜ (r ≡ byte) × (r < 256) ⌝ }
-{
-    byte as usize
-}
 
 // The number that a table has for i, if that is below s.
 pub fn earlier_number(table: &[u8; 64], s: usize, i: usize, otherwise: usize) -> usize

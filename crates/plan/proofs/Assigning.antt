@@ -9,19 +9,16 @@ use Rattle.model.specs.Tests.{Is, _or_, non, _==_, _<?_}
 use Rattle.model.specs.Bytes.{Bytes}
 use Rattle.model.specs.Outcomes.{require, _then_}
 use Rattle.model.specs.Layout.{Plan, statementCount, nodeCount}
-use Rattle.model.specs.Statements.{kind, opensLoop, opens, operandDefinition}
+use Rattle.model.specs.Statements.{opens, operandDefinition}
 use Rattle.model.specs.Nodes.{nodeRegion}
 use Rattle.model.specs.Needs.{hasSymbol, symbol, symbolNode, symbolRegion, assignmentCheck}
-use Rattle.model.specs.declared.StatementKind.{StatementKind}
 use Rattle.model.specs.declared.Outcome.{Outcome}
 use Rattle.model.specs.declared.Outcome.the-variants.{Pass}
 use Rattle.model.specs.declared.Refusal.{Refusal}
 use Rattle.model.specs.declared.Refusal.the-variants.{InvalidRecord, RegionMismatch}
 use Rattle.model.proofs.Tests.{less, pick-true, pick-false}
-use Rattle.loops.specs.Tables.{statementParts}
 use Rattle.plan.specs.Symbols.{RegionsKnown}
 use Rattle.loops.proofs.Tracking.{operand-most}
-use Rattle.loops.proofs.Pairs.{kind-of-plan}
 
 -- what follows a test matters only where it passes
 then-same : (t : Bool) (q : Refusal) {x y : Outcome} → (Is t → x ≡ y) → require t q then x ≡ require t q then y
@@ -30,11 +27,6 @@ then-same true q h = h refl
 then-same false q h = refl
 
 module _ (P : Plan) (s : ℕ) where
-  pub opens-of-plan : {statements : Bytes} → P .statements ≡ statements → {k : StatementKind} {b : Bool}
-      → k ≡ kind (statementParts statements) s → b ≡ opensLoop k → b ≡ opens P s
-  unfolding opens
-  opens-of-plan section k e = rw (e, kind-of-plan P section s k)
-
   -- the region of a symbol: the loop's, or that of the access's variable
   pub loop-region : {statements : Bytes} {r : ℕ} → P .statements ≡ statements → opens P s ≡ true → r ≡ getD statements (s * 4 + 1) 0
       → r ≡ symbolRegion P s

@@ -7,7 +7,7 @@ use mathlib.Core.List.{List}
 use native.Mathlib.Omega.{arith}
 use lib.ListN.{getD}
 use Rattle.model.specs.Tests.{_and_, _==_}
-use Rattle.model.specs.Layout.{Plan, nodeCount, nodeKind, nodeA, nodeB}
+use Rattle.model.specs.Layout.{Plan, nodeKind, nodeA, nodeB}
 use Rattle.model.specs.Nodes.{IMAGE}
 use Rattle.model.specs.Bytes.{Bytes}
 use Rattle.model.specs.Statements.{kind, definesVariable, opensLoop}

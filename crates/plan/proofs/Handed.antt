@@ -1,10 +1,9 @@
 -- A check reads no section that its reader is not handed: with every definition that passes the plan on opened, both sides are the
 -- same. Assumes nothing.
-use Prim.Native.Nat.{ℕ, _<_}
+use Prim.Native.Nat.{ℕ}
 use mathlib.Core.Path.{_≡_, refl}
 use mathlib.Core.List.{List, []}
 use mathlib.Core.Bool.{Bool}
-use lib.ListN.{getD}
 use Rattle.model.specs.Bytes.{Bytes}
 use Rattle.model.specs.Layout.{Plan, nodeCount, stepCount}
 use Rattle.model.specs.Statements.{kind, opens, defines, accesses, loopBefore, variables, definition, operandBy, operand, operandDefinition, regionBy, variableRegion, centeredBy, centered, statementFormedBy, statementFormed, statementAgreesBy, statementAgrees, statementCheck}
@@ -14,7 +13,7 @@ use Rattle.model.specs.Lemmas.{concludesSubset, concludesDisjoint, concludesCom
 use Rattle.model.specs.Needs.{hasSymbol, symbol, symbolRegion, assignmentCountCheck, assignmentCheck, imageNode, boundBy, bound, loopNeedsMet, accessNeedMet, needCheck}
 use Rattle.model.specs.Verdict.{regionCheck, mapCheck, suppliedCheck}
 use Rattle.layout.specs.Parts.{parts}
-use Rattle.model.specs.Outcomes.{_then_, scan}
+use Rattle.model.specs.Outcomes.{_then_}
 use Rattle.plan.specs.Needs.{NeedsKnown}
 use Rattle.loops.specs.Tables.{StatementTables}
 use Rattle.expressions.specs.declared.nodes.CheckedNodes.{CheckedNodes}

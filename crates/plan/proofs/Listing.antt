@@ -11,7 +11,7 @@ use borrow.Author.Tests.{eqb-true, eqb-false}
 use Rattle.model.specs.Tests.{_and_, pick}
 use Rattle.model.specs.Bytes.{Bytes}
 use Rattle.model.specs.Recursion.{below}
-use Rattle.model.specs.Layout.{Plan, statementCount, nodeCount}
+use Rattle.model.specs.Layout.{Plan, nodeCount}
 use Rattle.model.specs.Statements.{kind, opens, operandDefinition}
 use Rattle.model.specs.Parallel.{reducesThroughPointer}
 use Rattle.model.specs.Needs.{hasSymbol, symbol, symbolNode, boundBy, bound, operandBound}

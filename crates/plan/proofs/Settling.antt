@@ -1,19 +1,18 @@
 -- The needs as they are listed, two of each statement, are settled as the definition checks them. Assumes nothing.
 use Prim.Native.Nat.{ℕ, zero, suc, _+_, _*_, _/_, _≤_, _<_}
 use native.Mathlib.Omega.{arith}
-use mathlib.Core.Path.{_≡_, refl, sym, _∙_}
+use mathlib.Core.Path.{_≡_, refl}
 use mathlib.Core.Logic.{inr}
 use mathlib.Core.Bool.{Bool, true, false, and-true}
 use mathlib.Core.List.{List}
 use lib.ListN.{getD}
-use lib.Dec.{eqb}
 use borrow.Author.Tests.{ne-eqb}
 use Rattle.model.specs.Tests.{Is, _and_, _or_, non, any, pick, _<?_, _==_}
 use Rattle.model.specs.Layout.{Plan, statementCount, nodeCount, stepCount}
 use Rattle.model.specs.Statements.{kind, opensLoop, accessOf, isAccess, opens, accesses}
 use Rattle.model.specs.Parallel.{reducesThroughPointer}
 use Rattle.model.specs.Lemmas.{concludesSubset, concludesDisjoint, concludesComplete}
-use Rattle.model.specs.Needs.{symbolNode, symbol, operandBound, loopNeedsMet, accessNeedMet, needCheck}
+use Rattle.model.specs.Needs.{symbolNode, operandBound, loopNeedsMet, accessNeedMet, needCheck}
 use Rattle.model.specs.declared.StatementKind.{StatementKind}
 use Rattle.model.specs.declared.StatementKind.the-variants.{For, Load, Call, Copy, Read, Write, Reduce, Unknown}
 use Rattle.model.specs.Outcomes.{require, _then_, scan}

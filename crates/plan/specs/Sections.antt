@@ -1,20 +1,18 @@
 -- The checks of a plan's records, section by section.
-use Prim.Native.Nat.{ℕ, _≤_, _<_}
+use Prim.Native.Nat.{ℕ, _<_}
 use mathlib.Core.Path.{_≡_}
 use mathlib.Core.List.{List}
 use mathlib.Core.Bool.{Bool}
 use lib.ListN.{getD}
 use Rattle.model.specs.Outcomes.{_then_, scan}
-use Rattle.model.specs.Layout.{Plan, regionCount, mapCount, suppliedCount, statementCount, nodeCount, assignmentCount, stepCount}
+use Rattle.model.specs.Layout.{Plan, statementCount, nodeCount, stepCount}
 use Rattle.model.specs.Statements.{statementCheck}
 use Rattle.model.specs.Parallel.{loopCheck}
 use Rattle.model.specs.Nodes.{nodeRegion, nodeCheck}
 use Rattle.model.specs.Needs.{assignmentCountCheck, assignmentCheck, needCheck}
-use Rattle.model.specs.Verdict.{regionCheck, mapCheck, suppliedCheck}
 use Rattle.model.specs.AcceptedPlans.{Limits}
 use Rattle.model.specs.declared.Outcome.{Outcome}
 use Rattle.model.specs.declared.Outcome.the-variants.{Pass}
-use Rattle.layout.specs.Declarations.{regionsCheck, mapsCheck, partitionsCheck}
 use Rattle.loops.specs.Tables.{StatementTables}
 use Rattle.loops.specs.Loops.{PointersKnown}
 use Rattle.plan.specs.Needs.{NodesNumbered, Few}

@@ -9,7 +9,7 @@ use loops::statements::kind_at;
 use model::Outcome;
 use model::Refusal;
 ghost use mathlib.Core.Path.{_≡_};
-ghost use Prim.Native.Nat.{ℕ, suc, _/_, _<_, _≤_};
+ghost use Prim.Native.Nat.{suc, _/_, _<_, _≤_};
 ghost use lib.ListN.{length};
 ghost use Rattle.model.specs.Tests.{pick};
 ghost use Rattle.model.specs.Outcomes.{_then_, scan};

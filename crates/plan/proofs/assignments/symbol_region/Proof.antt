@@ -1,7 +1,7 @@
 -- By the test of the kind. Assumes nothing.
 use mathlib.Core.Path.{sym, _∙_}
-use Rattle.loops.proofs.Pairs.{count-of-plan}
-use Rattle.plan.proofs.Assigning.{opens-of-plan, loop-region, access-region}
+use Rattle.loops.proofs.Pairs.{count-of-plan, opens-of-plan}
+use Rattle.plan.proofs.Assigning.{loop-region, access-region}
 use borrow.Author.Needs.{needs}
 use Rattle.plan.proofs.assignments.symbol_region.Statement.{statement}
 use Rattle.plan.proofs.assignments.symbol_region.Tie as tie

@@ -1,9 +1,9 @@
 -- The needs as listed are settled as the definition checks them. Assumes nothing.
 use Prim.Native.Nat.{_≤_}
-use mathlib.Core.Path.{_≡_, sym, _∙_}
+use mathlib.Core.Path.{sym, _∙_}
 use native.Mathlib.Omega.{arith}
 use borrow.Author.Needs.{needs}
-use Rattle.model.specs.Layout.{Plan, nodeCount}
+use Rattle.model.specs.Layout.{nodeCount}
 use Rattle.loops.proofs.Pairs.{count-of-plan}
 use Rattle.plan.proofs.Settling.{all-settled}
 use Rattle.plan.proofs.needs.check_needs.Statement.{statement}

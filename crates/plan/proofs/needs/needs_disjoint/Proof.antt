@@ -1,18 +1,17 @@
 -- By whether the statement opens a loop. Assumes nothing.
 use denote.Ref.{now}
-use mathlib.Core.Path.{_≡_, _∙_}
+use mathlib.Core.Path.{_≡_, sym, _∙_}
 use Rattle.model.specs.Tests.{_and_}
 use Rattle.model.specs.Layout.{Plan}
 use Rattle.model.specs.Statements.{opens}
-use Rattle.loops.proofs.Pairs.{kind-of-plan}
+use Rattle.loops.proofs.Pairs.{opens-of-plan}
 use borrow.Author.Needs.{needs}
 use Rattle.plan.proofs.needs.needs_disjoint.Statement.{statement}
 use Rattle.plan.proofs.needs.needs_disjoint.Tie as tie
 
 opens-is : (m : tie.After-opens-loop) (P : Plan) → P .statements ≡ now (m .before .before .before .before .before .args .statements)
     → opens P (m .before .before .before .before .before .args .s) ≡ m .opens-loop .result
-unfolding opens
-opens-is m P section = rw (m .opens-loop .ensures, kind-of-plan P section _ (m .before .kind-at .ensures))
+opens-is m P section = sym (opens-of-plan P _ section (m .before .kind-at .ensures) (m .opens-loop .ensures))
 
 returns : tie.Need-returns
 unfolding _and_
