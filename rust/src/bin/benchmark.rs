@@ -2,6 +2,7 @@
 //! version, in one run, as Markdown tables of times and ratios.
 #![forbid(unsafe_code)]
 
+use std::cell::RefCell;
 use std::hint::black_box;
 use std::time::{Duration, Instant};
 
@@ -100,14 +101,19 @@ fn check_times(workload: &Workload, other: &Version) -> Times {
     measure([LIBRARY.check, other.check].map(|check| move || check(black_box(&workload.plan))))
 }
 
+/// Both versions write the same words, so that neither is favoured by where a buffer lies.
 fn evaluate_times(workload: &Workload, other: &Version) -> Times {
+    let words = RefCell::new(vec![!0; workload.words]);
     let mut expected: Option<Vec<u64>> = None;
     measure([LIBRARY.evaluate, other.evaluate].map(|evaluate| {
-        let mut words = vec![!0; workload.words];
-        let answer = evaluate(&workload.plan, &workload.data, &mut words);
+        let call =
+            move |words: &mut [u64]| evaluate(black_box(&workload.plan), black_box(&workload.data), words);
+        let answer = call(&mut words.borrow_mut());
         assert!(answer.is_accepted(), "{}: {answer:?}", workload.name);
-        assert_eq!(words, *expected.get_or_insert_with(|| words.clone()), "{}", workload.name);
-        move || evaluate(black_box(&workload.plan), black_box(&workload.data), black_box(&mut words))
+        let filled = words.replace(vec![!0; workload.words]);
+        assert_eq!(filled, *expected.get_or_insert_with(|| filled.clone()), "{}", workload.name);
+        let words = &words;
+        move || call(black_box(&mut words.borrow_mut()))
     }))
 }
 
