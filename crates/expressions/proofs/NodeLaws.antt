@@ -1,12 +1,12 @@
 -- Section 5: the tables of kinds, read at the kind of a record, and the checks of a node in order. Assumes nothing.
-use Prim.Native.Nat.{ℕ, zero, suc, _+_, _*_, _≤_, _<_}
+use Prim.Native.Nat.{ℕ, _+_, _*_, _≤_, _<_}
 use mathlib.Core.Path.{_≡_, refl, sym, _∙_, ap, fun-ext}
 use mathlib.Core.Bool.{Bool, true, false, and-true}
 use mathlib.Core.Logic.{inl, inr}
 use mathlib.Core.List.{List, [], _∷_}
 use native.Mathlib.Omega.{arith}
 use lib.ListN.{getD, length, set}
-use Rattle.model.specs.Tests.{Is, _and_, non, any, _==_, _<?_}
+use Rattle.model.specs.Tests.{Is, _and_, non, _==_, _<?_}
 use Rattle.model.specs.Outcomes.{require, _then_}
 use Rattle.model.specs.Layout.{Plan, nodeCount, mapCount, nodeA, nodeB, nodeKind, nodeUnused, source, target}
 use Rattle.model.specs.Nodes.{nodeCheck, duplicateNode, sameNode, nodeFormed, nodeFormedRows, nodeAgrees, nodeAgreesRows, nodeRegion, nodeRegionRows, nodeRegionStep}
@@ -17,6 +17,7 @@ use Rattle.model.specs.declared.Refusal.the-variants.{InvalidRecord, RegionMism
 use Rattle.model.specs.declared.Outcome.the-variants.{Pass, Refuse}
 use Rattle.layout.proofs.Filling.{next-filled}
 use Rattle.layout.proofs.Scanning.{Scanning}
+use Rattle.layout.proofs.Searches.{any-same}
 use Rattle.expressions.specs.Nodes.{nodeNumber, numberOf, isAmong, NodeRead, EarlierNodes, FormedNode, NodeRegionOf, NodeChecked}
 use Rattle.expressions.specs.declared.nodes.Node.{Node}
 use Rattle.expressions.specs.declared.nodes.NodeRegion.{NodeRegion}
@@ -127,11 +128,6 @@ number-same {k} {a} {b} {k'} {a'} {b'} k< a< b< k'< a'< b'< =
     let e-a = same (both (both h .1) .0) in
     let e-b = same (both (both h .1) .1) in
     same! (omega arith))
-
-any-same : (n : ℕ) (f g : ℕ → Bool) → ((k : ℕ) → k < n → f k ≡ g k) → any n f ≡ any n g
-unfolding any
-any-same zero f g e = refl
-any-same (suc n) f g e = rw (any-same n f g (λ k lt. e k (omega arith)), e n (omega arith))
 
 module _ {P : Plan} {regionTable numberTable : List ℕ} {j : ℕ} (earlier : EarlierNodes P regionTable numberTable j)
     (bytes : (i : ℕ) → getD (P .nodes) i 0 < 256) where

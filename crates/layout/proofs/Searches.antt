@@ -1,5 +1,5 @@
 -- A search over the numbers from 0 on: what holds while nothing is found. Assumes nothing.
-use Prim.Native.Nat.{ℕ, _+_, _≤_}
+use Prim.Native.Nat.{ℕ, zero, suc, _+_, _≤_, _<_}
 use mathlib.Core.Path.{_≡_, refl}
 use mathlib.Core.Bool.{Bool, false}
 use native.Mathlib.Numerals.{add-one}
@@ -17,3 +17,15 @@ module _ (test : ℕ → Bool) where
 
   pub none-at-end : (k n : ℕ) → k ≤ n → n ≤ k → any k test ≡ false → any n test ≡ false
   none-at-end k n a b h = let e : k ≡ n = omega arith in rw e at h
+
+-- a search by tests that agree
+pub any-same : (n : ℕ) (f g : ℕ → Bool) → ((k : ℕ) → k < n → f k ≡ g k) → any n f ≡ any n g
+unfolding any
+any-same zero f g e = refl
+any-same (suc n) f g e = rw (any-same n f g (λ k lt. e k (omega arith)), e n (omega arith))
+
+-- a search in which every test fails
+pub none-of : (n : ℕ) (f : ℕ → Bool) → ((k : ℕ) → k < n → f k ≡ false) → any n f ≡ false
+unfolding any _or_
+none-of zero f e = refl
+none-of (suc n) f e = rw (none-of n f (λ k lt. e k (omega arith)), e n (omega arith))

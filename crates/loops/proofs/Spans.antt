@@ -9,7 +9,8 @@ use borrow.Author.Tests.{ltb-true, ltb-false}
 use Rattle.model.specs.Tests.{Is, any, every, pick}
 use Rattle.model.specs.Layout.{Plan, statementCount}
 use Rattle.model.specs.Statements.{opens, loop, loopBefore}
-use Rattle.model.proofs.Tests.{falsum, fails, refuted, pick-true, pick-false, some-of, among, every-at, every-of}
+use Rattle.model.proofs.Tests.{falsum, fails, refuted, pick-true, pick-false, among, every-at, every-of}
+use Rattle.layout.proofs.Searches.{none-of}
 use Rattle.loops.specs.Loops.{LoopSpan}
 
 -- a number is below a bound or not
@@ -96,9 +97,6 @@ module _ (P : Plan) (f : ℕ) (test : ℕ → Bool) where
   later-loop : {end : ℕ} → LoopSpan P f end → (s : ℕ) → s < statementCount P → end ≤ s → loop P s ≡ f → ⊥
   later-loop span s lt le e = absurd (omega (arith, span .only s lt e .1))
 
-  none : (n : ℕ) → ((s : ℕ) → s < n → test s ≡ false) → any n test ≡ false
-  none n h = fails (refuted (λ y. let w = some-of y in falsum (sym (h (w .0) (w .1)) ∙ w .2)))
-
   module _ (others : (s : ℕ) → (loop P s ≡ f → ⊥) → Is (test s)) where
     pub every-before-loop : Is (every f test)
     every-before-loop = every-of f test (λ s lt. others s (earlier-loop s lt))
@@ -115,10 +113,10 @@ module _ (P : Plan) (f : ℕ) (test : ℕ → Bool) where
 
   module _ (others : (s : ℕ) → (loop P s ≡ f → ⊥) → test s ≡ false) where
     pub none-before-loop : any f test ≡ false
-    none-before-loop = none f (λ s lt. others s (earlier-loop s lt))
+    none-before-loop = none-of f test (λ s lt. others s (earlier-loop s lt))
 
     pub none-after-loop : {end t : ℕ} → LoopSpan P f end → end ≤ t → any t test ≡ false → any (statementCount P) test ≡ false
-    none-after-loop {t = t} span le h = none (statementCount P) at
+    none-after-loop {t = t} span le h = none-of (statementCount P) test at
       where
         at : (s : ℕ) → s < statementCount P → test s ≡ false
         at s lt =

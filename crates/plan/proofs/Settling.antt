@@ -23,6 +23,7 @@ use Rattle.model.specs.declared.Refusal.the-variants.{UnmetNeed}
 use Rattle.model.proofs.Tests.{falsum, one, less}
 use Rattle.model.proofs.Outcomes.{required}
 use Rattle.plan.specs.Needs.{NOTHING, UNLISTED, firstClaim, secondClaim, Listed, settled}
+use Rattle.layout.proofs.Searches.{any-same, none-of}
 use Rattle.expressions.specs.Steps.{subsetNumber, disjointNumber, completeNumber, Concluded}
 use Rattle.plan.proofs.Stages.{then-assoc}
 use Rattle.plan.specs.declared.needs.Found.{Found}
@@ -76,17 +77,6 @@ opens-only Write e = falsum e
 opens-only Reduce e = falsum e
 opens-only Unknown e = falsum e
 
--- a search by tests that agree
-any-same : (n : ℕ) (f g : ℕ → Bool) → ((t : ℕ) → t < n → f t ≡ g t) → any n f ≡ any n g
-unfolding any
-any-same zero f g h = refl
-any-same (suc n) f g h = rw (any-same n f g (λ t lt. h t (omega arith)), h n (omega arith))
-
-any-none : (n : ℕ) (f : ℕ → Bool) → ((t : ℕ) → t < n → f t ≡ false) → any n f ≡ false
-unfolding any _or_
-any-none zero f h = refl
-any-none (suc n) f h = rw (any-none n f (λ t lt. h t (omega arith)), h n (omega arith))
-
 module _ (P : Plan) {conclusions : List ℕ} (known : Concluded P (stepCount P) conclusions) where
   -- whether a claim is met by what the steps conclude
   unfoldable isMet : ℕ → Bool
@@ -104,7 +94,7 @@ module _ (P : Plan) {conclusions : List ℕ} (known : Concluded P (stepCount P) 
   unlisted : isMet UNLISTED ≡ false
   unfolding isMet _==_ _or_
   unlisted =
-      rw (any-none (stepCount P) (λ t. getD conclusions t 0 == UNLISTED) (λ t lt. ne-eqb (getD conclusions t 0) UNLISTED (λ e. omega (arith, known .small t lt))))
+      rw (none-of (stepCount P) (λ t. getD conclusions t 0 == UNLISTED) (λ t lt. ne-eqb (getD conclusions t 0) UNLISTED (λ e. omega (arith, known .small t lt))))
 
   complete-met : (x : ℕ) → x < 256 → isMet (completeNumber x) ≡ any (stepCount P) (λ t. concludesComplete P t x)
   complete-met x small = asked _ (omega arith) (λ t lt. known .completes t lt x small)

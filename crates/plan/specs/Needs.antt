@@ -40,6 +40,7 @@ pub record BoundSources (P : Plan) (statements assignments : Bytes) (numbers : L
   pub assignments-are : P .assignments ≡ assignments
   pub numbered : NodesNumbered P numbers nodes
 
+-- a bound that may be asked for: few nodes and statements, and the bound to follow a byte
 pub record BoundSought (nodes s followed : ℕ) : Type 0 where
   pub few-nodes : nodes ≤ 48
   pub few : s < 64
