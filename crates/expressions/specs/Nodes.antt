@@ -25,6 +25,12 @@ nodeNumber kind a b = kind + a * 256 + b * 65536
 abbrev pub numberOf : Plan → ℕ → ℕ
 numberOf P j = nodeNumber (nodeKind P j) (nodeA P j) (nodeB P j)
 
+-- the table tells kind, a and b of each node by one number
+abbrev pub NodeNumbers : Plan → List ℕ → Type 0
+NodeNumbers P numbers =
+    (j : ℕ) → j < nodeCount P → (k a b : ℕ) → k < 256 → a < 256 → b < 256
+    → (getD numbers j 0 == nodeNumber k a b) ≡ (nodeKind P j == k and nodeA P j == a and nodeB P j == b)
+
 -- one of the first n numbers is this one
 abbrev pub isAmong : List ℕ → ℕ → ℕ → Bool
 isAmong numbers number n = any n (λ k. getD numbers k 0 == number)
@@ -62,6 +68,7 @@ pub record FormedNode (P : Plan) (regionTable : List ℕ) (node : Node) (j : ℕ
   pub formed : Is (nodeFormed P j)
   pub regions : (k : ℕ) → getD regionTable k 0 ≡ below 0 j (nodeRegion P) k
 
+-- the region of node j, a byte, and whether its operands' regions agree
 pub record NodeRegionOf (P : Plan) (j : ℕ) (r : NodeRegion) : Type 0 where
   pub region : r .region ≡ nodeRegion P j
   pub agrees : r .agrees ≡ nodeAgrees P j
@@ -73,6 +80,7 @@ RegionRead maps supplied table node r =
     (regions nodes : Bytes) (j : ℕ) → FormedNode (parts regions maps supplied [] nodes [] []) table node j
     → NodeRegionOf (parts regions maps supplied [] nodes [] []) j r
 
+-- the outcome of node j, its number and, after a pass, its region
 pub record NodeChecked (P : Plan) (j : ℕ) (r : CheckedNode) : Type 0 where
   pub outcome : r .outcome ≡ nodeCheck P j
   pub region : r .outcome ≡ Pass → r .region ≡ nodeRegion P j
@@ -84,5 +92,4 @@ pub record NodesChecked (P : Plan) (r : CheckedNodes) : Type 0 where
   pub outcome : r .outcome ≡ scan (nodeCheck P) 0 (nodeCount P)
   pub regions : r .outcome ≡ Pass → (j : ℕ) → j < nodeCount P → getD (r .regions) j 0 ≡ nodeRegion P j
   pub room : length (r .numbers) ≡ 48
-  pub numbers : r .outcome ≡ Pass → (j : ℕ) → j < nodeCount P → (k a b : ℕ) → k < 256 → a < 256 → b < 256
-      → (getD (r .numbers) j 0 == nodeNumber k a b) ≡ (nodeKind P j == k and nodeA P j == a and nodeB P j == b)
+  pub numbers : r .outcome ≡ Pass → NodeNumbers P (r .numbers)

@@ -7,7 +7,7 @@ use lib.ListN.{getD, length}
 use Rattle.model.specs.Tests.{_and_, _or_, any, pick, _==_, _<?_}
 use Rattle.model.specs.Bytes.{Bytes}
 use Rattle.model.specs.Outcomes.{require}
-use Rattle.model.specs.Layout.{Plan, nodeCount, nodeKind, nodeA, nodeB, stepCount}
+use Rattle.model.specs.Layout.{Plan, nodeCount, stepCount}
 use Rattle.model.specs.Statements.{kind, opensLoop, accessOf, isAccess, opens}
 use Rattle.model.specs.Parallel.{reducesThroughPointer}
 use Rattle.model.specs.Needs.{symbol, symbolNode, boundBy, operandBound}
@@ -15,14 +15,13 @@ use Rattle.model.specs.declared.StatementKind.{StatementKind}
 use Rattle.model.specs.declared.Outcome.{Outcome}
 use Rattle.model.specs.declared.Refusal.the-variants.{UnmetNeed}
 use Rattle.loops.specs.Loops.{PointersKnown}
-use Rattle.expressions.specs.Nodes.{nodeNumber}
+use Rattle.expressions.specs.Nodes.{NodeNumbers}
 use Rattle.expressions.specs.Steps.{subsetNumber, disjointNumber, completeNumber, Concluded}
 
--- a plan of so many nodes, of which the table tells kind, a and b by one number each
+-- a plan of so many nodes, and the table of their numbers
 pub record NodesNumbered (P : Plan) (numbers : List ℕ) (nodes : ℕ) : Type 0 where
   pub count-is : nodes ≡ nodeCount P
-  pub numbers-are : (j : ℕ) → j < nodeCount P → (k a b : ℕ) → k < 256 → a < 256 → b < 256
-      → (getD numbers j 0 == nodeNumber k a b) ≡ (nodeKind P j == k and nodeA P j == a and nodeB P j == b)
+  pub numbers-are : NodeNumbers P numbers
 
 -- an image that may be asked for
 pub record ImageSought (nodes node map : ℕ) : Type 0 where

@@ -63,7 +63,7 @@ pub record Operand (words masks : List ℕ) (a : ℕ) (set : List ℕ) : Type 0 
   pub holds-is : (e : ℕ) → e < 512 → holds set 0 e ≡ masked masks (holds words a) e
   pub spare : holds set 0 512 ≡ false
 
--- a table of elements, and a set that they may be in; from some place on none of them is
+-- a table of elements, and a set that they may be in
 pub record Lookup (table set : List ℕ) : Type 0 where
   pub all : length table ≡ 512
   pub nine : length set ≡ 9
