@@ -4,19 +4,19 @@ use Prim.Native.Nat.{ℕ}
 use mathlib.Core.Path.{_≡_, sym, ap, _∙_}
 use mathlib.Core.List.{List}
 use lib.ListN.{length}
-use Rattle.model.specs.Answers.{told}
+use Rattle.model.specs.Answers.{report}
 use Rattle.model.specs.Bytes.{Bytes}
 use Rattle.model.specs.Verdict.{verdict}
 use Rattle.model.specs.Evaluation.{evaluation}
-use Rattle.model.specs.Packed.{packedTold, packed, unpacked}
+use Rattle.model.specs.Packed.{packedReport, packed, unpacked}
 use Rattle.model.specs.Promises.{CheckPromise, EvaluationPromise}
 use Rattle.model.specs.declared.Answer.{Answer}
 use Rattle.model.proofs.Packed.{verdict-read, evaluation-read}
 use Rattle.abi.specs.Exported.{Packs, ExportedCheck, ExportedEvaluation}
 
 module _ (result : ℕ) (r : Answer) (e : result ≡ packed r) where
-  packs : (s : Answer) → told r ≡ told s → unpacked (packed s) ≡ told s → Packs result r
-  packs s t read = record { packs = e; reads = ap unpacked e ∙ ap (λ t. unpacked (packedTold t)) t ∙ read ∙ sym t }
+  packs : (s : Answer) → report r ≡ report s → unpacked (packed s) ≡ report s → Packs result r
+  packs s t read = record { packs = e; reads = ap unpacked e ∙ ap (λ t. unpacked (packedReport t)) t ∙ read ∙ sym t }
 
   pub exported-check : (p : Bytes) → CheckPromise p r → ExportedCheck p result
   exported-check p h = record { answer = r; packing = packs (verdict p) (h .answer) (verdict-read p); promise = h }

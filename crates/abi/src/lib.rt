@@ -26,10 +26,12 @@ pub extern "C" fn mavisglen_evaluate(plan: &[u8], data: &[u8], words: &mut [u64]
 fn pack(answer: Answer) -> u64
     ensures { λ r. ⌜ r ≡ packed answer ⌝ }
 {
-    let told = answers::tell(answer);
-    if told.number == 0 {
-        ((told.symbols % 256 << 8) + (told.nodes % 256 << 16) + (told.steps % 256 << 24)) as u64
+    let report = answers::report_answer(answer);
+    if report.number == 0 {
+        ((report.symbols % 256 << 8)
+            + (report.nodes % 256 << 16)
+            + (report.steps % 256 << 24)) as u64
     } else {
-        (told.number % 256 + (told.place << 8)) as u64
+        (report.number % 256 + (report.place << 8)) as u64
     }
 }

@@ -1,12 +1,12 @@
-// What an answer tells, as numbers.
+// What an answer reports, as numbers.
 use model::Answer;
 use model::Refusal;
 ghost use mathlib.Core.Path.{_≡_};
-ghost use Rattle.model.specs.Answers.{told, toldRefusal, refusal as refusalTold};
-ghost use Rattle.answers.specs.Telling.{asStruct};
+ghost use Rattle.model.specs.Answers.{report, refusalReport, refusal as refusalOf};
+ghost use Rattle.answers.specs.Reports.{asStruct};
 
 // Number and place of a refusal, 0 and 0 on acceptance; the counts of an acceptance, 0 on refusal.
-pub struct Told {
+pub struct Report {
     pub number: usize,
     pub place: usize,
     pub symbols: usize,
@@ -14,29 +14,29 @@ pub struct Told {
     pub steps: usize,
 }
 
-// What an answer tells.
-pub fn tell(answer: Answer) -> Told
-    ensures { λ r. ⌜ r ≡ asStruct (told answer) ⌝ }
+// What an answer reports.
+pub fn report_answer(answer: Answer) -> Report
+    ensures { λ r. ⌜ r ≡ asStruct (report answer) ⌝ }
 {
     match answer {
         Answer::Accepted {
             symbols,
             nodes,
             steps,
-        } => Told {
+        } => Report {
             number: 0,
             place: 0,
             symbols,
             nodes,
             steps,
         },
-        Answer::Refused(refusal) => tell_refusal(refusal),
+        Answer::Refused(refusal) => report_refusal(refusal),
     }
 }
 
 // A refusal's number and place: the table of refusals.
-pub fn tell_refusal(refusal: Refusal) -> Told
-    ensures { λ r. ⌜ r ≡ asStruct (toldRefusal refusal) ⌝ }
+pub fn report_refusal(refusal: Refusal) -> Report
+    ensures { λ r. ⌜ r ≡ asStruct (refusalReport refusal) ⌝ }
 {
     match refusal {
         Refusal::Truncated(section) => refused(1, section),
@@ -58,10 +58,10 @@ pub fn tell_refusal(refusal: Refusal) -> Told
 }
 
 // A refusal: "counts 0".
-fn refused(number: usize, place: usize) -> Told
-    ensures { λ r. ⌜ r ≡ asStruct (refusalTold number place) ⌝ }
+fn refused(number: usize, place: usize) -> Report
+    ensures { λ r. ⌜ r ≡ asStruct (refusalOf number place) ⌝ }
 {
-    Told {
+    Report {
         number,
         place,
         symbols: 0,

@@ -9,8 +9,8 @@ use Rattle.model.specs.Tests.{Is, _and_, _or_, any, _==_}
 use Rattle.model.specs.Bytes.{byte}
 use Rattle.model.specs.Words.{bit, word}
 use Rattle.model.specs.Layout.{Plan, suppliedRegion, suppliedFlags}
-use Rattle.model.specs.DataSets.{DataSet, pieces, size, pieceBytes, memberStart, suppliedBit, supplied, suppliedTrue}
-use Rattle.model.specs.PlainData.{SuppliedRight}
+use Rattle.model.specs.DataSets.{DataSet, pieces, size, pieceBytes, memberStart, suppliedBit, supplied, declarationsHold}
+use Rattle.model.specs.PlainData.{DeclarationsHold}
 use Rattle.model.proofs.Tests.{both, pair, implied, implies, same, same!, less, less!, most, most!, which, which!, some-of, among, every-at, every-of}
 use Rattle.model.proofs.Words.{bit-zero, bit-number, bit-word, bits-decide, number-less, word-less}
 use Rattle.model.proofs.DataAgrees.{supplied-right}
@@ -90,7 +90,7 @@ module _ (P : Plan) (D : DataSet) (k : ℕ) where
   held i e h = both (both h .1) .1
 
   -- where the flags are kept, each column keeps them
-  module _ (right : SuppliedRight P D k) where
+  module _ (right : DeclarationsHold P D k) where
     column-disjoint : (c : ℕ) → Is disjoint → bitAnd (twice c) (word (upTo elements) c) ≡ 0
     unfolding upTo supplied
     column-disjoint c declared =
@@ -164,7 +164,7 @@ module _ (P : Plan) (D : DataSet) (k : ℕ) where
         ∙ pair (bit-seen (e / 64) (e % 64) (omega arith) ∙ rw at-place (among (i, li, h)))
         (bit-word (between elements (8 * ((elements + 7) / 8))) (e / 64) (e % 64) (omega arith) ∙ rw at-place (pair (most! le) (less! lt))))
 
-    flags-kept : SuppliedRight P D k
+    flags-kept : DeclarationsHold P D k
     unfolding pieceBytes
     flags-kept =
         record {
@@ -177,5 +177,5 @@ module _ (P : Plan) (D : DataSet) (k : ℕ) where
         }
 
   -- the test by columns is the test by elements
-  pub by-columns : suppliedTrue P D k ≡ columnsKeepFlags (D .members) (memberStart P D k) elements (pieces D) disjoint complete
+  pub by-columns : declarationsHold P D k ≡ columnsKeepFlags (D .members) (memberStart P D k) elements (pieces D) disjoint complete
   by-columns = agree (λ h. columns-kept (supplied-right P D k .0 h)) (λ h. supplied-right P D k .1 (flags-kept h))

@@ -3,7 +3,7 @@ use Prim.Native.Nat.{ℕ, zero, suc}
 use mathlib.Core.Path.{_≡_, refl, fun-ext}
 use Rattle.model.specs.Bytes.{Bytes}
 use Rattle.model.specs.Layout.{Plan, mapCount, suppliedCount}
-use Rattle.model.specs.DataSets.{DataSet, dataOf, size, entryStart, entry, entryFits, entriesCheck, pieceBytes, memberStart, suppliedBit, suppliedDisjoint, suppliedComplete, padBitsClear, suppliedTrue, framed, dataCheck}
+use Rattle.model.specs.DataSets.{DataSet, dataOf, size, entryStart, entry, entryFits, entriesCheck, pieceBytes, memberStart, suppliedBit, suppliedDisjoint, suppliedComplete, padBitsClear, declarationsHold, wellFramed, dataCheck}
 use Rattle.dataset.specs.SectionChecks.{allEntries, partitionCheck, allSupplied}
 
 module _ (P Q : Plan) (D E : DataSet) (sizes : D .sizes ≡ E .sizes) where
@@ -33,7 +33,7 @@ module _ (P Q : Plan) (D E : DataSet) (sizes : D .sizes ≡ E .sizes) where
     same-bits members k = fun-ext (λ i. fun-ext (λ e. rw (same-member-start k, supplied, sizes, members)))
 
     same-partition : D .members ≡ E .members → (k : ℕ) → partitionCheck P D k ≡ partitionCheck Q E k
-    unfolding suppliedTrue suppliedDisjoint suppliedComplete padBitsClear pieceBytes size
+    unfolding declarationsHold suppliedDisjoint suppliedComplete padBitsClear pieceBytes size
     same-partition members k = rw (same-bits members k, supplied, sizes, pieces)
 
     pub same-supplied : D .members ≡ E .members → allSupplied P D ≡ allSupplied Q E
@@ -42,7 +42,7 @@ module _ (P Q : Plan) (D E : DataSet) (sizes : D .sizes ≡ E .sizes) where
 -- the plan's regions, maps and supplied partitions
 module _ (P Q : Plan) (d : Bytes) (regions : P .regions ≡ Q .regions) (maps : P .maps ≡ Q .maps) (supplied : P .supplied ≡ Q .supplied) where
   pub same-data-check : dataCheck P d ≡ dataCheck Q d
-  unfolding dataCheck framed
+  unfolding dataCheck wellFramed
   same-data-check =
       rw (
         same-entries P Q (dataOf d) (dataOf d) refl maps refl,

@@ -8,7 +8,7 @@ use lib.ListN.{length, List·getD-eq-default}
 use Rattle.model.specs.Tests.{Is, _and_}
 use Rattle.model.specs.Bytes.{Bytes, u16, part, boundary, body}
 use Rattle.model.specs.Layout.{Plan, mapCount, suppliedCount}
-use Rattle.model.specs.DataSets.{dataOf, size, entryStart, memberStart, framed}
+use Rattle.model.specs.DataSets.{dataOf, size, entryStart, memberStart, wellFramed}
 use Rattle.model.proofs.Tests.{both, pair, same, every-of, most! }
 use Rattle.dataset.specs.DataParts.{frameOf, dataParts, Cut}
 use Rattle.dataset.specs.declared.data.DataFrame.{DataFrame}
@@ -51,8 +51,8 @@ module _ (P : Plan) (d : Bytes) where
   section-lengths-right =
       lengthsRight (P .regions) (dataOf d) (entryStart P (dataOf d) (mapCount P)) (memberStart P (dataOf d) (suppliedCount P))
 
-  pub framed-is : framed P d ≡ laidOut d and section-lengths-right
-  unfolding framed laidOut lengthsRight section-lengths-right size
+  pub framed-is : wellFramed P d ≡ laidOut d and section-lengths-right
+  unfolding wellFramed laidOut lengthsRight section-lengths-right size
   framed-is =
       agree (λ h. let t = both (both (both h .1) .1) .1 in pair (pair (both (both h .1) .0) (both t .0)) (both t .1))
       (λ h. let o = both (both h .0) in

@@ -8,7 +8,7 @@ use Rattle.model.specs.Bytes.{Bytes, body}
 use Rattle.model.specs.Outcomes.{require, _then_}
 use Rattle.model.specs.Layout.{Plan, mapCount, suppliedCount, source}
 use Rattle.model.specs.DataSets.{DataSet, dataOf, pieces, size, entryStart, pieceBytes, memberStart, dataCheck}
-use Rattle.model.specs.PlainData.{Framed, Fits}
+use Rattle.model.specs.PlainData.{WellFramed, Fits}
 use Rattle.model.proofs.Tests.{both, pair, same, same!, most, every-at}
 use Rattle.model.proofs.DataAgrees.{data-fits}
 use Rattle.dataset.specs.DataParts.{frameOf, Cut, mapsPlan, entriesData, suppliedPlan, membersData}
@@ -117,7 +117,7 @@ module _ (P : Plan) (d : Bytes) where
   unfolding require _then_ pick
   reading-refused h = rw (data-check-is, h)
 
-  size-most : Framed P d → (region : ℕ) → size (dataOf d) region ≤ 512
+  size-most : WellFramed P d → (region : ℕ) → size (dataOf d) region ≤ 512
   unfolding size
   size-most framed = sizes-most _ (body d 1) (framed .size-each) (framed .sizes)
 
@@ -125,7 +125,7 @@ module _ (P : Plan) (d : Bytes) where
   unfolding laidOut pick pieceBytes
   data-given few pass =
       let fits = data-fits P d .0 pass in
-      let framed = fits .framed in
+      let framed = fits .frame in
       let layout : Is (laidOut d) = pair (same! (framed .edition)) (same! (framed .nothing-after)) in
       let entries : EntriesPlaced P (dataOf d) (entryStarts P (dataOf d) .starts) =
       record { few = few .maps; begin = refl; whole = framed .entry-each }

@@ -11,7 +11,7 @@ ghost use mathlib.Core.Path.{_≡_};
 ghost use Prim.Native.Nat.{_+_, _/_, _≤_};
 ghost use mathlib.Core.List.{[]};
 ghost use lib.ListN.{length};
-ghost use Rattle.model.specs.DataSets.{suppliedTrue};
+ghost use Rattle.model.specs.DataSets.{declarationsHold};
 ghost use Rattle.dataset.specs.DataParts.{suppliedPlan, membersData};
 ghost use Rattle.dataset.specs.Starts.{memberStarts, PartitionPlaced, MembersPlaced};
 ghost use Rattle.dataset.specs.Columns.{PiecesInside, ColumnOfRegion, ColumnInside, columnOf, pieceWord, columnKeepsFlags, columnsKeepFlags};
@@ -119,7 +119,7 @@ fn partition_keeps_flags(
     partition: usize,
 ) -> bool
     requires { ⌜ PartitionPlaced (suppliedPlan (now supplied)) (membersData (now «piece_count») (now sizes) (now members)) start partition ⌝ }
-    ensures { λ r. ⌜ r ≡ suppliedTrue (suppliedPlan (now (supplied .entry))) (membersData (now («piece_count» .entry)) (now (sizes .entry)) (now (members .entry))) partition ⌝ }
+    ensures { λ r. ⌜ r ≡ declarationsHold (suppliedPlan (now (supplied .entry))) (membersData (now («piece_count» .entry)) (now (sizes .entry)) (now (members .entry))) partition ⌝ }
 {
     let size = u16_at(sizes, 2 * byte_at(supplied, partition * 2));
     let flags = byte_at(supplied, partition * 2 + 1);

@@ -1,5 +1,5 @@
 // What a case does with the plan and the data set that it has built.
-use answers::tell;
+use answers::report_answer;
 use evaluate::evaluate;
 use listing::print_answer;
 use listing::print_node;
@@ -48,8 +48,8 @@ fn evaluate_into(plan: &[u8], data: &[u8], words: &mut [u64], lent: usize) {
     if lent <= words.len() {
         let answer = evaluate(plan, data, &mut words[0..lent]);
         print_answer(answer);
-        let told = tell(answer);
-        print_nodes(data, words, told.nodes);
+        let report = report_answer(answer);
+        print_nodes(data, words, report.nodes);
     }
 }
 

@@ -1,7 +1,7 @@
 -- The checks of the sections that declare regions, maps and supplied partitions.
 use Rattle.model.specs.Outcomes.{scan}
 use Rattle.model.specs.Layout.{Plan, regionCount, mapCount, suppliedCount}
-use Rattle.model.specs.Verdict.{regionCheck, mapCheck, suppliedCheck}
+use Rattle.model.specs.Declarations.{regionCheck, mapCheck, suppliedCheck}
 use Rattle.model.specs.declared.Outcome.{Outcome}
 
 module _ (P : Plan) where

@@ -7,7 +7,7 @@ ghost use mathlib.Core.Path.{_≡_};
 ghost use mathlib.Core.List.{[]};
 ghost use Prim.Native.Nat.{_<_, _/_};
 ghost use lib.ListN.{length};
-ghost use Rattle.model.specs.Verdict.{mapCheck};
+ghost use Rattle.model.specs.Declarations.{mapCheck};
 ghost use Rattle.layout.specs.Parts.{parts};
 ghost use Rattle.layout.specs.Declarations.{mapsCheck};
 

@@ -5,7 +5,7 @@ use mathlib.Core.List.{List, [], _∷_, _++_}
 use lib.ListN.{length, take}
 use Rattle.model.specs.Tests.{_==_, _<?_, pick}
 use Rattle.model.specs.Words.{holds}
-use Rattle.model.specs.Answers.{Told}
+use Rattle.model.specs.Answers.{Report}
 
 abbrev pub Text : Type 0
 Text = List ℕ
@@ -31,7 +31,7 @@ acceptedText symbols nodes steps =
 unfoldable pub refusedText : ℕ → ℕ → Text
 refusedText number place = (114 ∷ 101 ∷ 102 ∷ 117 ∷ 115 ∷ 101 ∷ 100 ∷ []) ++ spaced number ++ spaced place ++ (10 ∷ [])
 
-unfoldable pub answerText : Told → Text
+unfoldable pub answerText : Report → Text
 answerText t = pick (t .number == 0) (acceptedText (t .symbols) (t .nodes) (t .steps)) (refusedText (t .number) (t .place))
 
 -- "members ascending": those below n of the set whose words stand from `at` on
@@ -51,7 +51,7 @@ pub record Appended (before after : Text) (at : ℕ) (text : Text) (end : ℕ) :
   pub ends : end ≡ at + length text
   pub shows : take end after ≡ take at before ++ text
 
--- the line starts with this text, which ends at `end`; both lengths are told so that `&line[..end]` needs no proof
+-- the line starts with this text, which ends at `end`; both lengths are report so that `&line[..end]` needs no proof
 pub record Shown (line text : Text) (end : ℕ) : Type 0 where
   pub shows : take end line ≡ text
   pub inside : end ≤ length line

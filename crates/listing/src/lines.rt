@@ -4,11 +4,11 @@ use crate::text::append_byte;
 use crate::text::append_bytes;
 use crate::text::append_decimal;
 use crate::text::append_spaced;
-use answers::tell;
+use answers::report_answer;
 use model::Answer;
 ghost use Prim.Native.Nat.{_≤_};
 ghost use lib.ListN.{length};
-ghost use Rattle.model.specs.Answers.{told};
+ghost use Rattle.model.specs.Answers.{report};
 ghost use Rattle.listing.specs.Text.{acceptedText, refusedText, answerText, pieceText, Shown};
 
 // The line of an acceptance: symbols, nodes, steps.
@@ -37,13 +37,13 @@ fn refused_line(line: &mut [u8], number: usize, place: usize) -> usize
 // The line of an answer.
 pub fn answer_line(line: &mut [u8], answer: Answer) -> usize
     requires { ⌜ 12288 ≤ length (now line) ⌝ }
-    ensures { λ r. ⌜ Shown (now (line .exit)) (answerText (told answer)) r ⌝ }
+    ensures { λ r. ⌜ Shown (now (line .exit)) (answerText (report answer)) r ⌝ }
 {
-    let told = tell(answer);
-    if told.number == 0 {
-        accepted_line(line, told.symbols, told.nodes, told.steps)
+    let report = report_answer(answer);
+    if report.number == 0 {
+        accepted_line(line, report.symbols, report.nodes, report.steps)
     } else {
-        refused_line(line, told.number, told.place)
+        refused_line(line, report.number, report.place)
     }
 }
 

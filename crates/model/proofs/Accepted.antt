@@ -14,7 +14,8 @@ use Rattle.model.specs.Parallel.{loopCheck}
 use Rattle.model.specs.Nodes.{duplicateNode, nodeCheck}
 use Rattle.model.specs.Needs.{symbolCount, assignmentCountCheck, assignmentCheck, needCheck}
 use Rattle.model.specs.Lemmas.{stepCheck}
-use Rattle.model.specs.Verdict.{regionCheck, mapCheck, suppliedCheck, recordsCheck, planCheck, accepted, verdict}
+use Rattle.model.specs.Declarations.{regionCheck, mapCheck, suppliedCheck}
+use Rattle.model.specs.Verdict.{recordsCheck, planCheck, accepted, verdict}
 use Rattle.model.specs.AcceptedPlans.{Facts, Limits}
 use Rattle.model.specs.declared.Answer.the-variants.{Accepted}
 use Rattle.model.specs.declared.Refusal.{Refusal}

@@ -2,14 +2,14 @@
 use mathlib.Core.Path.{_≡_, refl, sym, _∙_, ap}
 use mathlib.Core.List.{[], _∷_}
 use lib.ListN.{getD}
-use Rattle.model.specs.Answers.{Told, toldRefusal, told}
+use Rattle.model.specs.Answers.{Report, refusalReport, report}
 use Rattle.model.specs.declared.Refusal.the-variants.{Truncated, UnknownEdition, TrailingBytes, InvalidLength, InvalidRecord, RegionMismatch, DuplicateNode, NotParallelizable, AssignmentCount, UnlicensedStep, UnmetNeed, InvalidData, InvalidEntry, InvalidPartition, OutputTooSmall}
 use Rattle.model.specs.declared.Answer.{Answer}
 use Rattle.model.specs.declared.Answer.the-variants.{Accepted, Refused}
 
 -- the answer that tells this
-unfoldable telling : Told → Answer
-telling t =
+unfoldable reporting : Report → Answer
+reporting t =
     getD
     (Accepted (t .symbols) (t .nodes) (t .steps) ∷ Refused (Truncated (t .place)) ∷ Refused UnknownEdition ∷ Refused (TrailingBytes (t .place)) ∷
     Refused (InvalidLength (t .place)) ∷ Refused (InvalidRecord (t .place)) ∷ Refused (RegionMismatch (t .place)) ∷
@@ -18,24 +18,24 @@ telling t =
     Refused (InvalidPartition (t .place)) ∷ Refused (OutputTooSmall (t .place)) ∷ [])
     (t .number) (Refused UnknownEdition)
 
-told-back : (a : Answer) → telling (told a) ≡ a
-unfolding told toldRefusal telling
-told-back (Accepted s n t) = refl
-told-back (Refused (Truncated p)) = refl
-told-back (Refused UnknownEdition) = refl
-told-back (Refused (TrailingBytes p)) = refl
-told-back (Refused (InvalidLength p)) = refl
-told-back (Refused (InvalidRecord p)) = refl
-told-back (Refused (RegionMismatch p)) = refl
-told-back (Refused (DuplicateNode p)) = refl
-told-back (Refused (NotParallelizable p)) = refl
-told-back (Refused (AssignmentCount p)) = refl
-told-back (Refused (UnlicensedStep p)) = refl
-told-back (Refused (UnmetNeed p)) = refl
-told-back (Refused InvalidData) = refl
-told-back (Refused (InvalidEntry p)) = refl
-told-back (Refused (InvalidPartition p)) = refl
-told-back (Refused (OutputTooSmall p)) = refl
+reported-back : (a : Answer) → reporting (report a) ≡ a
+unfolding report refusalReport reporting
+reported-back (Accepted s n t) = refl
+reported-back (Refused (Truncated p)) = refl
+reported-back (Refused UnknownEdition) = refl
+reported-back (Refused (TrailingBytes p)) = refl
+reported-back (Refused (InvalidLength p)) = refl
+reported-back (Refused (InvalidRecord p)) = refl
+reported-back (Refused (RegionMismatch p)) = refl
+reported-back (Refused (DuplicateNode p)) = refl
+reported-back (Refused (NotParallelizable p)) = refl
+reported-back (Refused (AssignmentCount p)) = refl
+reported-back (Refused (UnlicensedStep p)) = refl
+reported-back (Refused (UnmetNeed p)) = refl
+reported-back (Refused InvalidData) = refl
+reported-back (Refused (InvalidEntry p)) = refl
+reported-back (Refused (InvalidPartition p)) = refl
+reported-back (Refused (OutputTooSmall p)) = refl
 
-pub told-injective : (a b : Answer) → told a ≡ told b → a ≡ b
-told-injective a b e = sym (told-back a) ∙ ap telling e ∙ told-back b
+pub report-injective : (a b : Answer) → report a ≡ report b → a ≡ b
+report-injective a b e = sym (reported-back a) ∙ ap reporting e ∙ reported-back b

@@ -10,9 +10,9 @@ use Rattle.model.specs.Recursion.{below}
 use Rattle.model.specs.Layout.{Plan, nodeCount, statementCount, statementA, nodeA, nodeB}
 use Rattle.model.specs.Statements.{opensLoop, kind, opens, loopBefore, loop, operandDefinition}
 use Rattle.model.specs.Needs.{symbolNode, imageNode, boundBy, bound, operandBound}
-use Rattle.model.specs.DataSets.{DataSet, leads}
+use Rattle.model.specs.DataSets.{DataSet, mapsTo}
 use Rattle.model.specs.Membership.{member}
-use Rattle.model.specs.Touches.{Takes, itself, loaded, called, copied}
+use Rattle.model.specs.Touches.{Value, itself, loaded, called, copied}
 use Rattle.model.specs.AcceptedPlans.{Facts}
 use Rattle.model.specs.declared.StatementKind.{StatementKind}
 use Rattle.model.specs.declared.StatementKind.the-variants.{For, Load, Call, Copy}
@@ -72,7 +72,7 @@ module _ (P : Plan) (D : DataSet) (F : Facts P) (fit : Fit P D) (i : ℕ) where
 
   -- LOAD and CALL
   by-map :
-      (s k d e : ℕ) → (kind P s ≡ Load) ⊎ (kind P s ≡ Call) → Is (leads P D (statementA P s) d e) →
+      (s k d e : ℕ) → (kind P s ≡ Load) ⊎ (kind P s ≡ Call) → Is (mapsTo P D (statementA P s) d e) →
       Bounded P D i (operandDefinition P s) k d → Bounded P D i s k e
   by-map s k d e is leading earlier lt held listed =
       let (opens-none, by-image) = follows-map P s is in
@@ -85,7 +85,7 @@ module _ (P : Plan) (D : DataSet) (F : Facts P) (fit : Fit P D) (i : ℕ) where
       rw (n .holds, left, map)
       (in-image _ _ _ (fit .sources (statementA P s) d e leading) (earlier (omega arith) (rw (r .1) held) (rw left at (n .listed))) leading)
 
-  pub bounded : {s k e : ℕ} → Takes P D s k e → Bounded P D i s k e
+  pub bounded : {s k e : ℕ} → Value P D s k e → Bounded P D i s k e
   bounded (itself {s = s} {k = k} is) = by-loop s k is
   bounded (loaded {s = s} {k = k} {d = d} {e = e} is takes leading) = by-map s k d e (inl is) leading (bounded takes)
   bounded (called {s = s} {k = k} {d = d} {e = e} is takes leading) = by-map s k d e (inr is) leading (bounded takes)

@@ -4,12 +4,12 @@ use mathlib.Core.Path.{_≡_, refl, sym, _∙_}
 use mathlib.Core.Logic.{_⊎_, inl, inr, _↔_}
 use native.Mathlib.Omega.{arith}
 use lib.ListN.{length}
-use Rattle.model.specs.Tests.{Is, _and_, non, pick, _==_, _<?_}
+use Rattle.model.specs.Tests.{Is, _and_, non, pick, _==_, _<?_, _≤?_}
 use Rattle.model.specs.Bytes.{Bytes, boundary}
-use Rattle.model.specs.Partitions.{Disjoint, Complete}
-use Rattle.model.specs.Layout.{Plan, planOf, target, totality, suppliedRegion}
-use Rattle.model.specs.DataSets.{DataSet, dataOf, NONE, pieces, size, entry, entryFits, entriesCheck, pieceBytes, suppliedBit, supplied, suppliedDisjoint, suppliedComplete, padBitsClear, suppliedTrue, framed, dataCheck}
-use Rattle.model.specs.PlainData.{Framed, EntryRight, SuppliedRight, Fits}
+use Rattle.model.specs.Partitions.{PairwiseDisjoint, Covering}
+use Rattle.model.specs.Layout.{Plan, planOf, source, target, totality, suppliedRegion}
+use Rattle.model.specs.DataSets.{DataSet, dataOf, NONE, pieces, size, entry, low, past, mapsTo, entryFits, entriesCheck, pieceBytes, suppliedBit, supplied, suppliedDisjoint, suppliedComplete, padBitsClear, declarationsHold, wellFramed, dataCheck}
+use Rattle.model.specs.PlainData.{WellFramed, PointsTo, EntryFits, DeclarationsHold, Fits}
 use Rattle.model.specs.GivenWhen.{GivenWhen}
 use Rattle.model.specs.declared.Refusal.{Refusal}
 use Rattle.model.specs.declared.Outcome.the-variants.{Pass, Refuse}
@@ -17,8 +17,8 @@ use Rattle.model.proofs.Tests.{lacks, refuted, both, pair, implied, imp
 use Rattle.model.proofs.Outcomes.{then-pass, passes-then, then-cases, require-pass, required, require-refuse, scan-pass, passes-scan, scan-refuse}
 
 module _ (P : Plan) (d : Bytes) where
-  frame-plainly : Is (framed P d) → Framed P d
-  unfolding framed
+  frame-plainly : Is (wellFramed P d) → WellFramed P d
+  unfolding wellFramed
   frame-plainly h =
       let h1 = both h in
       let h2 = both (h1 .1) in
@@ -43,8 +43,8 @@ module _ (P : Plan) (d : Bytes) where
         member-bytes = same (h10 .1);
       }
 
-  test-frame : Framed P d → Is (framed P d)
-  unfolding framed
+  test-frame : WellFramed P d → Is (wellFramed P d)
+  unfolding wellFramed
   test-frame f =
       pair (most! (f .some-byte)) (pair (same! (f .edition))
       (pair (every-of 4 _ (λ n lt. pair (most! (begins n (f .sections-end n lt))) (most! (f .sections-end n lt)))) (pair (same! (f .nothing-after))
@@ -55,25 +55,51 @@ module _ (P : Plan) (d : Bytes) where
       begins : (n : ℕ) → boundary d (suc n) ≤ length d → boundary d n + 2 ≤ length d
       begins n h = unfold boundary in omega arith
 
-  pub frame-fits : Is (framed P d) ↔ Framed P d
+  pub frame-fits : Is (wellFramed P d) ↔ WellFramed P d
   frame-fits = (frame-plainly, test-frame)
 
 module _ (P : Plan) (D : DataSet) where
-  pub entry-fits : (m k : ℕ) → Is (entryFits P D m k) ↔ EntryRight P D m k
+  -- a map to sets, and the entry of an element
+  pub points-to : (m k e : ℕ) → Is (mapsTo P D m k e) ↔ PointsTo P D m k e
+  unfolding mapsTo low past
+  points-to m k e = (λ h. go (split (entry P D m k == NONE)) h, back)
+    where
+      go : Is (entry P D m k == NONE) ⊎ Is (non (entry P D m k == NONE)) →
+          Is (k <? size D (source P m) and entry P D m k ≤? e and e <? pick (entry P D m k == NONE) (entry P D m k) (entry P D m k + 1)) →
+          PointsTo P D m k e
+      go (inl n) h =
+          let above = most (both (both h .1) .0) in
+          let under = less (rw (pick-true (entry P D m k == NONE) (entry P D m k) (entry P D m k + 1) n) at (both (both h .1) .1)) in
+          absurd (omega arith)
+      go (inr n) h =
+          let above = most (both (both h .1) .0) in
+          let under = less (rw (pick-false (entry P D m k == NONE) (entry P D m k) (entry P D m k + 1) (fails n)) at (both (both h .1) .1)) in
+          let is : entry P D m k ≡ e = omega arith in
+          record { from = less (both h .0); entry-is = is; some = λ q. lacks n (same! (is ∙ q)) }
+
+      back : PointsTo P D m k e →
+          Is (k <? size D (source P m) and entry P D m k ≤? e and e <? pick (entry P D m k == NONE) (entry P D m k) (entry P D m k + 1))
+      back w =
+          let is = w .entry-is in
+          let other : Is (non (entry P D m k == NONE)) = refuted (λ q. w .some (sym is ∙ same q)) in
+          let under : Is (e <? entry P D m k + 1) = less! (omega arith) in
+          pair (less! (w .from)) (pair (most! (omega arith)) (rw (pick-false (entry P D m k == NONE) (entry P D m k) (entry P D m k + 1) (fails other)) under))
+
+  pub entry-fits : (m k : ℕ) → Is (entryFits P D m k) ↔ EntryFits P D m k
   unfolding entryFits
   entry-fits m k = (λ h. go (split (entry P D m k == NONE)) h, back)
     where
       go : Is (entry P D m k == NONE) ⊎ Is (non (entry P D m k == NONE)) →
-          Is (pick (entry P D m k == NONE) (totality P m == 0) (entry P D m k <? size D (target P m))) → EntryRight P D m k
+          Is (pick (entry P D m k == NONE) (totality P m == 0) (entry P D m k <? size D (target P m))) → EntryFits P D m k
       go (inl e) h = inl (same e, same (sym (pick-true _ _ _ e) ∙ h))
       go (inr e) h = inr ((λ q. lacks e (same! q)), less (sym (pick-false _ _ _ (fails e)) ∙ h))
 
-      back : EntryRight P D m k → Is (pick (entry P D m k == NONE) (totality P m == 0) (entry P D m k <? size D (target P m)))
+      back : EntryFits P D m k → Is (pick (entry P D m k == NONE) (totality P m == 0) (entry P D m k <? size D (target P m)))
       back (inl w) = pick-true _ _ _ (same! (w .0)) ∙ same! (w .1)
       back (inr w) = pick-false _ _ _ (fails (refuted (λ q. w .0 (same q)))) ∙ less! (w .1)
 
   -- disjoint by a shared element
-  disjoint-sets : (k : ℕ) → Is (suppliedDisjoint P D k) ↔ Disjoint (supplied P D k)
+  disjoint-sets : (k : ℕ) → Is (suppliedDisjoint P D k) ↔ PairwiseDisjoint (supplied P D k)
   unfolding suppliedDisjoint supplied
   disjoint-sets k = (
     λ h i j e a b.
@@ -92,7 +118,7 @@ module _ (P : Plan) (D : DataSet) where
           (pair (both (both a .1) .1) (both (both b .1) .1))
 
   -- complete by no missing element
-  complete-sets : (k : ℕ) → Is (suppliedComplete P D k) ↔ Complete (pieces D) (size D (suppliedRegion P k)) (supplied P D k)
+  complete-sets : (k : ℕ) → Is (suppliedComplete P D k) ↔ Covering (pieces D) (size D (suppliedRegion P k)) (supplied P D k)
   unfolding suppliedComplete supplied
   complete-sets k = (
     λ h e le. let w = some-of (every-at _ _ h e le) in (w .0, w .1, pair (less! (w .1)) (pair (less! le) (w .2))),
@@ -110,8 +136,8 @@ module _ (P : Plan) (D : DataSet) where
     λ h. every-of _ _ (λ i li. every-of _ _ (λ b lb. refuted (h i (size D (suppliedRegion P k) + b) li (omega arith) (omega arith)))),
   )
 
-  pub supplied-right : (k : ℕ) → Is (suppliedTrue P D k) ↔ SuppliedRight P D k
-  unfolding suppliedTrue
+  pub supplied-right : (k : ℕ) → Is (declarationsHold P D k) ↔ DeclarationsHold P D k
+  unfolding declarationsHold
   supplied-right k = (
     λ h.
         record {
@@ -131,7 +157,7 @@ fits-plainly P d h =
     let h1 = then-pass _ _ h in
     let h2 = then-pass _ _ (h1 .1) in
     record {
-      framed = frame-fits P d .0 (require-pass _ _ (h1 .0));
+      frame = frame-fits P d .0 (require-pass _ _ (h1 .0));
       entries = λ m k lm lk. entry-fits P (dataOf d) m k .0 (require-pass _ _ (scan-pass _ _ (scan-pass _ _ (h2 .0) m lm) k lk));
       supplied = λ k lk. supplied-right P (dataOf d) k .0 (require-pass _ _ (scan-pass _ _ (h2 .1) k lk));
     }
@@ -139,7 +165,7 @@ fits-plainly P d h =
 passes-data : (P : Plan) (d : Bytes) → Fits P d → dataCheck P d ≡ Pass
 unfolding dataCheck entriesCheck
 passes-data P d f =
-    passes-then (required _ _ (frame-fits P d .1 (f .framed)))
+    passes-then (required _ _ (frame-fits P d .1 (f .frame)))
     (passes-then
     (passes-scan _ _ (λ m lm. passes-scan _ _ (λ k lk. required _ _ (entry-fits P (dataOf d) m k .1 (f .entries m k lm lk)))))
     (passes-scan _ _ (λ k lk. required _ _ (supplied-right P (dataOf d) k .1 (f .supplied k lk)))))

@@ -9,7 +9,7 @@ use Rattle.model.specs.Layout.{planOf, statementCount}
 use Rattle.model.specs.Verdict.{recordsCheck, planCheck, verdict}
 use Rattle.model.specs.Evaluation.{evaluationCheck}
 use Rattle.model.specs.LoopRelations.{SymbolsBefore}
-use Rattle.model.specs.PlainPlan.{Reads, Parallelizable, Licensed, Concluded}
+use Rattle.model.specs.PlainPlan.{WellFormed, Parallelizable, Licensed, Concluded}
 use Rattle.model.specs.GivenWhen.{GivenWhen}
 use Rattle.model.specs.Promises.{Accepts, CheckPromise}
 use Rattle.model.specs.declared.Refusal.{Refusal}
@@ -27,7 +27,7 @@ use Rattle.model.proofs.Demand2Loops.{statements-pass, loops-pass, assi
 
 module _ (p : Bytes) where
   abbrev Plainly : Type 0
-  Plainly = Reads p × Parallelizable p × Licensed p × Concluded p
+  Plainly = WellFormed p × Parallelizable p × Licensed p × Concluded p
 
   accepted-plainly : planCheck p ≡ Pass → Plainly
   unfolding planCheck recordsCheck
@@ -93,7 +93,7 @@ module _ (p : Bytes) where
       (needs-pass (planOf p) (R .statements) N (R .assignments) (R .steps) .1 needs))))))))))
 
   -- T2
-  pub demand-2 : Accepts (verdict p) ↔ (Reads p × Parallelizable p × Licensed p × Concluded p)
+  pub demand-2 : Accepts (verdict p) ↔ (WellFormed p × Parallelizable p × Licensed p × Concluded p)
   unfolding verdict
   demand-2 =
       (λ a. accepted-plainly (conclude-accepted _ _ _ _ _ (a .3) .0), λ w. (_, _, _, conclude-pass _ _ (plainly-accepted w)))

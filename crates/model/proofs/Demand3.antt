@@ -92,7 +92,7 @@ module _ (P : Plan) (D : DataSet) (F : Facts P) (fits : Fit P D) where
               (i, piece, in-subregion f i k lt symbol m);
           once = λ reduces k i j li lj a b.
               loop-disjoint f lt h reduces i j k (of-subregion f i k lt symbol li a) (of-subregion f j k lt symbol lj b);
-          handed = λ s i k e ls here li held touches.
+          contained = λ s i k e ls here li held touches.
               let (access, takes) = touches in
               let (lower, one-loop) = operand-earlier P F s ls (access-opens-none P s access) in
               let start = of-subregion f i k lt symbol li held in

@@ -6,7 +6,7 @@ use mathlib.Core.List.{List}
 use mathlib.Core.Bool.{false}
 use native.Mathlib.Omega.{arith}
 use lib.ListN.{length}
-use Rattle.model.specs.Answers.{told}
+use Rattle.model.specs.Answers.{report}
 use Rattle.model.specs.Bytes.{Bytes}
 use Rattle.model.specs.Layout.{planOf, nodeCount}
 use Rattle.model.specs.Nodes.{nodeRegion}
@@ -47,7 +47,7 @@ module _ (p d : Bytes) (old new : List ℕ) (r : Answer) (answers : r ≡ evalua
   pub evaluation-promise : EvaluationPromise p d old new r
   evaluation-promise =
       record {
-        answer = ap told answers;
+        answer = ap report answers;
         words = leaves;
         sets = exact;
         above-size = λ a j i e lj li low high. exact a j i e lj li high ∙ outside a j i e lj low;

@@ -4,7 +4,7 @@ use mathlib.Core.Path.{_≡_, refl}
 use mathlib.Core.List.{List, [], _∷_, _++_, map}
 use mathlib.Core.Bool.{Bool, true, false}
 use Rattle.model.specs.Tests.{_and_, _or_, non, _==_, _<?_, _≤?_, any, every, pick, first}
-use Rattle.model.specs.Answers.{Told, told, toldRefusal, refusal}
+use Rattle.model.specs.Answers.{Report, report, refusalReport, refusal}
 use Rattle.model.specs.Outcomes.{require, _then_, scan, conclude}
 use Rattle.model.specs.Bytes.{Bytes, boundary, body}
 use Rattle.model.specs.Recursion.{below, levels, course}
@@ -15,8 +15,9 @@ use Rattle.model.specs.Parallel.{isRead, isWrite, isReduce, reads, write
 use Rattle.model.specs.Nodes.{nodeFormedRows, nodeFormed, nodeRegionRows, nodeRegionStep, nodeRegion, nodeAgreesRows, nodeAgrees, sameNode, duplicateNode, nodeCheck}
 use Rattle.model.specs.Lemmas.{lemmas, lemmaRow, inUse, isSubset, isDisjoint, isComplete, concludesSubset, concludesDisjoint, concludesComplete, operandOf, licences, licence, stepFormed, stepLicensed, stepCheck}
 use Rattle.model.specs.Needs.{hasSymbol, symbol, symbolRegion, assignmentCountCheck, assignmentCheck, imageNode, boundBy, bound, loopNeedsMet, accessNeedMet, needCheck}
-use Rattle.model.specs.Verdict.{regionCheck, mapCheck, suppliedCheck, recordsCheck, planCheck, verdict}
-use Rattle.model.specs.DataSets.{dataOf, pieces, size, entryStart, entry, low, past, leads, pieceBytes, memberStart, suppliedBit, supplied}
+use Rattle.model.specs.Declarations.{regionCheck, mapCheck, suppliedCheck}
+use Rattle.model.specs.Verdict.{recordsCheck, planCheck, verdict}
+use Rattle.model.specs.DataSets.{dataOf, pieces, size, entryStart, entry, low, past, mapsTo, pieceBytes, memberStart, suppliedBit, supplied}
 use Rattle.model.specs.Membership.{equal, operators, nodeSets, member}
 use Rattle.model.proofs.FiledPlans.{planA, planA-stepless, planA-written, planB, planB-partial, dataD}
 
@@ -28,7 +29,7 @@ pub data Input : Type 0 where
 
 -- what it gives: an answer, or the elements of each piece
 pub data Output : Type 0 where
-  answer : Told → Output
+  answer : Report → Output
   subregions : List (List ℕ) → Output
 
 -- the numbers from k on, of n, that pass
@@ -41,7 +42,7 @@ listed partition n i zero = []
 listed partition n i (suc N) = passing (partition i) 0 n ∷ listed partition n (suc i) N
 
 abbrev pub gives : Input → Output
-gives (checking p) = answer (told (verdict p))
+gives (checking p) = answer (report (verdict p))
 gives (evaluating p d j r) = subregions (listed (member (planOf p) (dataOf d) j) (size (dataOf d) r) 0 (pieces (dataOf d)))
 gives (dividing n N) = subregions (listed (contiguous N (equalStart N n)) n 0 N)
 
@@ -81,7 +82,7 @@ outputs =
 
 pub filed-table : map gives inputs ≡ outputs
 unfolding
-    told toldRefusal verdict planCheck layoutCheck sectionCheck shapeOf shapes boundary body conclude require _then_ scan
+    report refusalReport verdict planCheck layoutCheck sectionCheck shapeOf shapes boundary body conclude require _then_ scan
     recordsCheck regionCheck mapCheck suppliedCheck statementCheck loopCheck nodeCheck assignmentCountCheck assignmentCheck stepCheck needCheck
     _and_ _or_ non _==_ _<?_ _≤?_ any every pick first below levels course
     kindOf opensLoop definesVariable accessOf isAccess kind opens defines accesses loopBefore variables definition operandBy operand
@@ -91,5 +92,5 @@ unfolding
     lemmas lemmaRow inUse isSubset isDisjoint isComplete concludesSubset concludesDisjoint concludesComplete operandOf licences licence
     stepFormed stepLicensed hasSymbol symbol symbolRegion imageNode boundBy bound loopNeedsMet accessNeedMet
     union intersection difference image preimage contiguous equalStart
-    size entryStart entry low past leads pieceBytes memberStart suppliedBit supplied equal operators nodeSets member
+    size entryStart entry low past mapsTo pieceBytes memberStart suppliedBit supplied equal operators nodeSets member
 filed-table = refl

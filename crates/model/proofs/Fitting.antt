@@ -8,9 +8,9 @@ use native.Mathlib.Omega.{arith}
 use lib.ListN.{length}
 use Rattle.model.specs.Tests.{Is, non, _==_}
 use Rattle.model.specs.Bytes.{Bytes, byte, boundary}
-use Rattle.model.specs.Partitions.{equalStart, Disjoint, Complete}
+use Rattle.model.specs.Partitions.{equalStart, PairwiseDisjoint, Covering}
 use Rattle.model.specs.Layout.{Plan, regionCount, mapCount, suppliedCount, source, target, totality, suppliedRegion, suppliedFlags}
-use Rattle.model.specs.DataSets.{DataSet, dataOf, NONE, pieces, size, entryStart, entry, low, past, leads, pieceBytes, memberStart, supplied, entryFits, entriesCheck, suppliedTrue, framed, dataCheck}
+use Rattle.model.specs.DataSets.{DataSet, dataOf, NONE, pieces, size, entryStart, entry, low, past, mapsTo, pieceBytes, memberStart, supplied, entryFits, entriesCheck, declarationsHold, wellFramed, dataCheck}
 use Rattle.model.specs.declared.Outcome.the-variants.{Pass}
 use Rattle.model.proofs.Tests.{both, pair, split, fails, same, less, less!, most, most!, every-at, pick-true, pick-false}
 use Rattle.model.proofs.Outcomes.{then-pass, require-pass, scan-pass}
@@ -35,22 +35,22 @@ pub record Fit (P : Plan) (D : DataSet) : Type 0 where
   -- equal
   pub starts : (r : ℕ) → Starts (pieces D) (size D r) (equalStart (pieces D) (size D r))
   -- maps
-  pub sources : (m k e : ℕ) → Is (leads P D m k e) → k < size D (source P m)
-  pub targets : (m : ℕ) → m < mapCount P → (k e : ℕ) → Is (leads P D m k e) → e < size D (target P m)
-  pub single-valued : (m : ℕ) → SingleValued (leads P D m)
-  pub total : (m : ℕ) → m < mapCount P → totality P m ≡ 1 → Total (size D (source P m)) (size D (target P m)) (leads P D m)
+  pub sources : (m k e : ℕ) → Is (mapsTo P D m k e) → k < size D (source P m)
+  pub targets : (m : ℕ) → m < mapCount P → (k e : ℕ) → Is (mapsTo P D m k e) → e < size D (target P m)
+  pub single-valued : (m : ℕ) → SingleValued (mapsTo P D m)
+  pub total : (m : ℕ) → m < mapCount P → totality P m ≡ 1 → Total (size D (source P m)) (size D (target P m)) (mapsTo P D m)
   -- supplied partitions
   pub supplied-within : (k : ℕ) → Within (pieces D) (size D (suppliedRegion P k)) (supplied P D k)
-  pub supplied-disjoint : (k : ℕ) → k < suppliedCount P → (suppliedFlags P k ≡ 1) ⊎ (suppliedFlags P k ≡ 3) → Disjoint (supplied P D k)
+  pub supplied-disjoint : (k : ℕ) → k < suppliedCount P → (suppliedFlags P k ≡ 1) ⊎ (suppliedFlags P k ≡ 3) → PairwiseDisjoint (supplied P D k)
   pub supplied-complete :
       (k : ℕ) → k < suppliedCount P → (suppliedFlags P k ≡ 2) ⊎ (suppliedFlags P k ≡ 3) →
-      Complete (pieces D) (size D (suppliedRegion P k)) (supplied P D k)
+      Covering (pieces D) (size D (suppliedRegion P k)) (supplied P D k)
 
 -- an entry is none, or leads to one element
 module _ (P : Plan) (D : DataSet) (m k : ℕ) where
-  leads-from : (e : ℕ) → Is (leads P D m k e) → (k < size D (source P m)) × Is (non (entry P D m k == NONE)) × (e ≡ entry P D m k)
-  unfolding leads low past
-  leads-from e h =
+  maps-from : (e : ℕ) → Is (mapsTo P D m k e) → (k < size D (source P m)) × Is (non (entry P D m k == NONE)) × (e ≡ entry P D m k)
+  unfolding mapsTo low past
+  maps-from e h =
       let (inside, range) = both h in
       let from = most (both range .0) in
       let up-to = less (both range .1) in
@@ -59,9 +59,9 @@ module _ (P : Plan) (D : DataSet) (m k : ℕ) where
         | inr some ↦ (less inside, some, omega (arith, rw (pick-false _ _ _ (fails some)) at up-to))
       ]
 
-  leads-to : k < size D (source P m) → Is (non (entry P D m k == NONE)) → Is (leads P D m k (entry P D m k))
-  unfolding leads low past
-  leads-to lt some =
+  maps-to : k < size D (source P m) → Is (non (entry P D m k == NONE)) → Is (mapsTo P D m k (entry P D m k))
+  unfolding mapsTo low past
+  maps-to lt some =
       pair (less! lt) (pair (most! (le-refl _)) (less! (rw (pick-false _ _ _ (fails some)) (omega arith))))
 
   -- an entry that fits is none in a partial map only, or leads inside
@@ -85,7 +85,7 @@ module _ (P : Plan) (D : DataSet) (k : ℕ) where
 
 module _ (P : Plan) (d : Bytes) where
   pub data-laid-out : dataCheck P d ≡ Pass → DataLaidOut d
-  unfolding dataCheck framed
+  unfolding dataCheck wellFramed
   data-laid-out h =
       let (some, h) = both (require-pass _ _ (then-pass _ _ h .0)) in
       let (edition, h) = both h in
@@ -98,7 +98,7 @@ module _ (P : Plan) (d : Bytes) where
       }
 
   pub fit : dataCheck P d ≡ Pass → Fit P (dataOf d)
-  unfolding dataCheck framed entriesCheck suppliedTrue
+  unfolding dataCheck wellFramed entriesCheck declarationsHold
   fit h =
       let (frame, h) = then-pass _ _ h in
       let (maps, partitions) = then-pass _ _ h in
@@ -114,7 +114,7 @@ module _ (P : Plan) (d : Bytes) where
       let D = dataOf d in
       let fits : (m : ℕ) → m < mapCount P → (k : ℕ) → k < size D (source P m) → Is (entryFits P D m k) =
       λ m lm k lk. require-pass _ _ (scan-pass _ _ (scan-pass _ _ maps m lm) k lk) in
-      let true-flags : (k : ℕ) → k < suppliedCount P → Is (suppliedTrue P D k) = λ k lt. require-pass _ _ (scan-pass _ _ partitions k lt) in
+      let true-flags : (k : ℕ) → k < suppliedCount P → Is (declarationsHold P D k) = λ k lt. require-pass _ _ (scan-pass _ _ partitions k lt) in
       record {
         some-piece = most some-piece;
         few-pieces = most few-pieces;
@@ -124,14 +124,14 @@ module _ (P : Plan) (d : Bytes) where
         entries-length = same (both f .0);
         members-length = same (both f .1);
         starts = λ r. equal-starts (pieces D) (size D r) (most some-piece);
-        sources = λ m k e l. leads-from P D m k e l .0;
+        sources = λ m k e l. maps-from P D m k e l .0;
         targets = λ m lt k e l.
-            let r = leads-from P D m k e l in
+            let r = maps-from P D m k e l in
             rw (r .2) (entry-inside P D m k (fits m lt k (r .0)) (r .1));
-        single-valued = λ m k a b x y. leads-from P D m k a x .2 ∙ sym (leads-from P D m k b y .2);
+        single-valued = λ m k a b x y. maps-from P D m k a x .2 ∙ sym (maps-from P D m k b y .2);
         total = λ m lt t k lk.
             let some = entry-some P D m k (fits m lt k lk) t in
-            (entry P D m k, entry-inside P D m k (fits m lt k lk) some, leads-to P D m k lk some);
+            (entry P D m k, entry-inside P D m k (fits m lt k lk) some, maps-to P D m k lk some);
         supplied-within = supplied-bits P D;
         supplied-disjoint = λ k lt. supplied-right P D k .0 (true-flags k lt) .disjoint;
         supplied-complete = λ k lt. supplied-right P D k .0 (true-flags k lt) .complete;

@@ -11,7 +11,7 @@ use Rattle.model.specs.Bytes.{Bytes, byte, u16, boundary, body}
 use Rattle.model.specs.Layout.{Plan, shapes, shapeOf, sectionCheck, layoutCheck, regionCount, fields, source, target, totality, suppliedRegion, suppliedFlags}
 use Rattle.model.specs.PlainPlan.{SectionLength, regions, maps, supplied, statements, nodes, assignments, steps}
 use Rattle.model.proofs.Tests.{lacks, both, pair, same, same!, less, less!, most, most!, Firsts, at-each}
-use Rattle.model.specs.Verdict.{regionCheck, mapCheck, suppliedCheck}
+use Rattle.model.specs.Declarations.{regionCheck, mapCheck, suppliedCheck}
 use Rattle.model.specs.GivenWhen.{GivenWhen}
 use Rattle.model.specs.declared.Refusal.{Refusal}
 use Rattle.model.specs.declared.Outcome.the-variants.{Pass, Refuse}
@@ -70,7 +70,7 @@ section-length n bytes lt =
     one-less : (n : ℕ) → suc n - 1 ≡ n
     one-less n = omega arith
 
--- what the layout's checks pass on, in the words of `Reads`
+-- what the layout's checks pass on, in the words of `WellFormed`
 pub record LayoutRead (p : Bytes) : Type 0 where
   pub some-byte : 1 ≤ length p
   pub edition : byte p 0 ≡ 1

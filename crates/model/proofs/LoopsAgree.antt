@@ -8,7 +8,7 @@ use native.Mathlib.Omega.{arith}
 use Rattle.model.specs.Tests.{Is, _and_, _or_, non, _==_, pick}
 use Rattle.model.specs.Layout.{Plan, statementKind}
 use Rattle.model.specs.Statements.{opens, defines, loopBefore, loop, variables, definition}
-use Rattle.model.specs.LoopRelations.{InLoop, Defining, Variable, loop-variable, next-variable, Sees, Room}
+use Rattle.model.specs.LoopRelations.{InLoop, Defining, Variable, loop-variable, next-variable, Resolves, WithinVariableLimit}
 use Rattle.model.proofs.Tests.{both, pair, either, one, refuted, split, fails, failing, lacks, same, same!, latest, pick-true, pick-false}
 use Rattle.model.proofs.StatementKinds.{opens-is, defines-is}
 
@@ -209,10 +209,10 @@ module _ (P : Plan) where
 
   -- the definition of variables, relation and functions: number v of the loop of FOR f is defined by statement d
   pub variable-is : {f d v : ℕ} → InLoop P f d × (v < variables P (suc d)) × (definition P (suc d) v ≡ d) ↔ Variable P f d v
-  variable-is {f} {d} {v} = (λ w. back (w .0) (w .1) (w .2), told)
+  variable-is {f} {d} {v} = (λ w. back (w .0) (w .1) (w .2), report)
     where
-      told : Variable P f d v → InLoop P f d × (v < variables P (suc d)) × (definition P (suc d) v ≡ d)
-      told w = let n = numbered w in (n .within, omega (arith, n .number), n .found)
+      report : Variable P f d v → InLoop P f d × (v < variables P (suc d)) × (definition P (suc d) v ≡ d)
+      report w = let n = numbered w in (n .within, omega (arith, n .number), n .found)
 
       back : InLoop P f d → v < variables P (suc d) → definition P (suc d) v ≡ d → Variable P f d v
       back i l e = rw (in-loop .1 i .2, e) at (made (suc d) f v (omega (arith, i .after)) (i .opened) l .1)
@@ -226,23 +226,23 @@ module _ (P : Plan) where
   Started s = (t : ℕ) × (t < s) × (statementKind P t ≡ 0)
 
   -- what a statement sees is among the variables before it
-  pub sees : {s v d : ℕ} → Sees P s v d → (v < variables P s) × (definition P s v ≡ d)
+  pub sees : {s v d : ℕ} → Resolves P s v d → (v < variables P s) × (definition P s v ≡ d)
   sees {s} {v} {d} w =
       let n = numbered (w .variable) in
       let g = inside (w .within) (omega (arith, n .within .after)) (w .earlier) (omega arith) in
       (omega (arith, g .grown, n .number), g .kept v (omega (arith, n .number)) ∙ n .found)
 
-  pub one-definition : {s v d e : ℕ} → Sees P s v d → Sees P s v e → d ≡ e
+  pub one-definition : {s v d e : ℕ} → Resolves P s v d → Resolves P s v e → d ≡ e
   one-definition u w = sym (sees u .1) ∙ sees w .1
 
-  pub sees-started : {s v d : ℕ} → Sees P s v d → Started s
+  pub sees-started : {s v d : ℕ} → Resolves P s v d → Started s
   sees-started w = (w .loop, omega (arith, w .earlier, numbered (w .variable) .within .after), w .within .opened)
 
-  pub sees-loop : {s v d : ℕ} → Sees P s v d → loop P d ≡ loop P s
+  pub sees-loop : {s v d : ℕ} → Resolves P s v d → loop P d ≡ loop P s
   sees-loop w = in-loop .1 (numbered (w .variable) .within) .2 ∙ sym (in-loop .1 (w .within) .2)
 
   -- and a variable before it is seen by a statement that opens no loop
-  pub seen : {s v : ℕ} → Started s → (statementKind P s ≡ 0 → ⊥) → v < variables P s → Sees P s v (definition P s v)
+  pub seen : {s v : ℕ} → Started s → (statementKind P s ≡ 0 → ⊥) → v < variables P s → Resolves P s v (definition P s v)
   seen {s} {v} (t, lt, h) n l =
       let m = made s t v lt h l in
       record {
@@ -253,13 +253,13 @@ module _ (P : Plan) where
       }
 
   pub sees-is :
-      {s v d : ℕ} → Started s → (statementKind P s ≡ 0 → ⊥) → (v < variables P s) × (definition P s v ≡ d) ↔ Sees P s v d
+      {s v d : ℕ} → Started s → (statementKind P s ≡ 0 → ⊥) → (v < variables P s) × (definition P s v ≡ d) ↔ Resolves P s v d
   sees-is st n = (λ w. rw (w .1) at (seen st n (w .0)), sees)
 
-  pub room-is : {s : ℕ} → Started s → Defining P s → (variables P s < 16) ↔ Room P s
+  pub room-is : {s : ℕ} → Started s → Defining P s → (variables P s < 16) ↔ WithinVariableLimit P s
   room-is {s} (t, lt, h) D = (λ l. room l, λ r. omega (arith, numbered (r .variable) .number, defined s D .0, r .few))
     where
-      room : variables P s < 16 → Room P s
+      room : variables P s < 16 → WithinVariableLimit P s
       room l =
           let o = defined s D in
           record {

@@ -12,7 +12,7 @@ use Rattle.model.specs.Recursion.{below}
 use Rattle.model.specs.Partitions.{Partition, empty, union, intersection, difference, image, preimage}
 use Rattle.model.specs.Layout.{Plan, regionCount, mapCount, suppliedCount, nodeCount, source, target, suppliedRegion, nodeKind, nodeA, nodeB}
 use Rattle.model.specs.Nodes.{SUPPLIED, EQUAL, UNION, INTERSECTION, DIFFERENCE, IMAGE, PREIMAGE, nodeFormedRows, nodeFormed, nodeRegionRows, nodeRegionStep, nodeRegion, nodeAgreesRows, nodeAgrees}
-use Rattle.model.specs.DataSets.{DataSet, pieces, size, leads, supplied}
+use Rattle.model.specs.DataSets.{DataSet, pieces, size, mapsTo, supplied}
 use Rattle.model.specs.Membership.{equal, operators, nodeSets, member}
 use Rattle.model.specs.AcceptedPlans.{Facts}
 use Rattle.model.proofs.Tests.{falsum, both, same, less, _also_, at-each}
@@ -61,10 +61,10 @@ module _ (P : Plan) (D : DataSet) (j : ℕ) where
   DifferenceNode = TwoOperands difference
 
   abbrev pub ImageNode : Type 0
-  ImageNode = OneOperand (source P) (target P) (image (size D (source P (nodeB P j))) (leads P D (nodeB P j)))
+  ImageNode = OneOperand (source P) (target P) (image (size D (source P (nodeB P j))) (mapsTo P D (nodeB P j)))
 
   abbrev pub PreimageNode : Type 0
-  PreimageNode = OneOperand (target P) (source P) (preimage (size D (target P (nodeB P j))) (leads P D (nodeB P j)))
+  PreimageNode = OneOperand (target P) (source P) (preimage (size D (target P (nodeB P j))) (mapsTo P D (nodeB P j)))
 
 -- what the tables of kinds say of a node, at its kind
 record Row (P : Plan) (D : DataSet) (j kind : ℕ) : Type 0 where

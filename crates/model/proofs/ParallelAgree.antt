@@ -8,7 +8,7 @@ use Rattle.model.specs.Tests.{Is, _and_, _or_, non, _==_, every}
 use Rattle.model.specs.Layout.{Plan, statementCount, statementKind, statementC}
 use Rattle.model.specs.Statements.{accesses, operandDefinition, operandRegion, centered}
 use Rattle.model.specs.Parallel.{reads, writes, reduces, uncentered, accessOfLoop, sameTarget, conflicts, parallelizable, reducesThroughPointer}
-use Rattle.model.specs.LoopRelations.{InLoop, Sees, VariableRegion, Centered, AccessThrough, by-load, directly, ReducesThroughPointer}
+use Rattle.model.specs.LoopRelations.{InLoop, Resolves, VariableRegion, Centered, AccessThrough, by-load, directly, ReducesThroughPointer}
 use Rattle.model.specs.PlainPlan.{ParallelizableLoop}
 use Rattle.model.proofs.Tests.{both, pair, either, one, lacks, refuted, split, implied, implies, same, same!, every-at, every-of, some-of, among}
 use Rattle.model.proofs.StatementKinds.{access-no-for, accesses-is, reads-is, writes-is, reduces-is}
@@ -17,7 +17,7 @@ use Rattle.model.proofs.VariablesAgree.{FormedBefore, formed-operand, r
 
 module _ (P : Plan) where
   -- the variable that an access goes through is seen by it
-  pub access-sees : {s d : ℕ} → AccessThrough P s d → (v : ℕ) × Sees P s v d
+  pub access-sees : {s d : ℕ} → AccessThrough P s d → (v : ℕ) × Resolves P s v d
   access-sees (by-load e w) = (_, w)
   access-sees (directly l m w) = (_, w)
 

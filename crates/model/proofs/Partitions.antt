@@ -10,7 +10,7 @@ use native.Mathlib.Omega.{arith}
 use lib.Dec.{ltb}
 use borrow.Author.Tests.{ltb-true, ltb-false}
 use Rattle.model.specs.Tests.{Is}
-use Rattle.model.specs.Partitions.{Partition, Map, union, intersection, difference, image, preimage, contiguous, equalStart, Subset, Disjoint, Complete}
+use Rattle.model.specs.Partitions.{Partition, Map, union, intersection, difference, image, preimage, contiguous, equalStart, Contained, PairwiseDisjoint, Covering}
 use Rattle.model.proofs.Tests.{both, pair, either, one, less, less!, most, most!, some-of, among}
 
 -- at most one target to an element
@@ -26,61 +26,61 @@ abbrev pub Within : ℕ → ℕ → Partition → Type 0
 Within N n A = (i e : ℕ) → Is (A i e) → (i < N) × (e < n)
 
 -- lemma 5
-pub subset-refl : (A : Partition) → Subset A A
+pub subset-refl : (A : Partition) → Contained A A
 subset-refl A i e h = h
 
 -- lemma 6
-pub subset-trans : {A B C : Partition} → Subset A B → Subset B C → Subset A C
+pub subset-trans : {A B C : Partition} → Contained A B → Contained B C → Contained A C
 subset-trans p q i e h = q i e (p i e h)
 
 -- lemma 15
-pub subset-disjoint : {A B : Partition} → Disjoint B → Subset A B → Disjoint A
+pub subset-disjoint : {A B : Partition} → PairwiseDisjoint B → Contained A B → PairwiseDisjoint A
 subset-disjoint d p i j e h k = d i j e (p i e h) (p j e k)
 
 -- lemma 19
-pub superset-complete : {A B : Partition} {N n : ℕ} → Complete N n A → Subset A B → Complete N n B
+pub superset-complete : {A B : Partition} {N n : ℕ} → Covering N n A → Contained A B → Covering N n B
 superset-complete c p e lt = let r = c e lt in (r .0, r .1, p (r .0) e (r .2))
 
-pub subset-within : {A B : Partition} {N n : ℕ} → Within N n B → Subset A B → Within N n A
+pub subset-within : {A B : Partition} {N n : ℕ} → Within N n B → Contained A B → Within N n A
 subset-within w p i e h = w i e (p i e h)
 
 module _ (A B : Partition) where
   -- lemma 7
-  pub union-contains-left : Subset A (union A B)
+  pub union-contains-left : Contained A (union A B)
   unfolding union
   union-contains-left i e h = one (inl h)
 
-  pub union-contains-right : Subset B (union A B)
+  pub union-contains-right : Contained B (union A B)
   unfolding union
   union-contains-right i e h = one (inr h)
 
   -- lemma 9
-  pub intersection-subset-left : Subset (intersection A B) A
+  pub intersection-subset-left : Contained (intersection A B) A
   unfolding intersection
   intersection-subset-left i e h = both h .0
 
-  pub intersection-subset-right : Subset (intersection A B) B
+  pub intersection-subset-right : Contained (intersection A B) B
   unfolding intersection
   intersection-subset-right i e h = both h .1
 
   -- lemma 11
-  pub difference-subset : Subset (difference A B) A
+  pub difference-subset : Contained (difference A B) A
   unfolding difference
   difference-subset i e h = both h .0
 
   -- lemma 16
-  pub intersection-disjoint-left : Disjoint A → Disjoint (intersection A B)
+  pub intersection-disjoint-left : PairwiseDisjoint A → PairwiseDisjoint (intersection A B)
   intersection-disjoint-left d = subset-disjoint d intersection-subset-left
 
-  pub intersection-disjoint-right : Disjoint B → Disjoint (intersection A B)
+  pub intersection-disjoint-right : PairwiseDisjoint B → PairwiseDisjoint (intersection A B)
   intersection-disjoint-right d = subset-disjoint d intersection-subset-right
 
   -- lemma 17
-  pub difference-disjoint : Disjoint A → Disjoint (difference A B)
+  pub difference-disjoint : PairwiseDisjoint A → PairwiseDisjoint (difference A B)
   difference-disjoint d = subset-disjoint d difference-subset
 
 -- lemma 8
-pub union-least : {A B C : Partition} → Subset A C → Subset B C → Subset (union A B) C
+pub union-least : {A B C : Partition} → Contained A C → Contained B C → Contained (union A B) C
 unfolding union
 union-least p q i e h = elim (either h) [ inl a ↦ p i e a | inr b ↦ q i e b ]
 
@@ -89,7 +89,7 @@ unfolding union
 union-within v w i e h = elim (either h) [ inl a ↦ v i e a | inr b ↦ w i e b ]
 
 -- lemma 10
-pub intersection-greatest : {A B C : Partition} → Subset C A → Subset C B → Subset C (intersection A B)
+pub intersection-greatest : {A B C : Partition} → Contained C A → Contained C B → Contained C (intersection A B)
 unfolding intersection
 intersection-greatest p q i e h = pair (p i e h) (q i e h)
 
@@ -113,15 +113,15 @@ module _ (n : ℕ) (f : Map) (A : Partition) where
 
 module _ (n : ℕ) (f : Map) where
   -- lemma 12
-  pub image-monotone : {A B : Partition} → Subset A B → Subset (image n f A) (image n f B)
+  pub image-monotone : {A B : Partition} → Contained A B → Contained (image n f A) (image n f B)
   image-monotone {A} {B} p i e h = let r = of-image n f A h in in-image n f B (r .1) (p i (r .0) (r .2)) (r .3)
 
   -- lemma 13
-  pub preimage-monotone : {A B : Partition} → Subset A B → Subset (preimage n f A) (preimage n f B)
+  pub preimage-monotone : {A B : Partition} → Contained A B → Contained (preimage n f A) (preimage n f B)
   preimage-monotone {A} {B} p i k h = let r = of-preimage n f A h in in-preimage n f B (r .1) (r .2) (p i (r .0) (r .3))
 
   -- lemma 18
-  pub preimage-disjoint : {A : Partition} → SingleValued f → Disjoint A → Disjoint (preimage n f A)
+  pub preimage-disjoint : {A : Partition} → SingleValued f → PairwiseDisjoint A → PairwiseDisjoint (preimage n f A)
   preimage-disjoint {A} s d i j k h g =
       let r = of-preimage n f A h in
       let t = of-preimage n f A g in
@@ -130,14 +130,14 @@ module _ (n : ℕ) (f : Map) where
 -- a map f of m elements to n elements
 module _ (m n : ℕ) (f : Map) where
   -- lemma 14
-  pub image-of-preimage : {A : Partition} (B : Partition) → SingleValued f → Subset A (preimage n f B) → Subset (image m f A) B
+  pub image-of-preimage : {A : Partition} (B : Partition) → SingleValued f → Contained A (preimage n f B) → Contained (image m f A) B
   image-of-preimage {A} B s p i e h =
       let r = of-image m f A h in
       let t = of-preimage n f B (p i (r .0) (r .2)) in
       rw (s (r .0) e (t .0) (r .3) (t .2)) (t .3)
 
   -- lemma 20
-  pub preimage-complete : {A : Partition} {N : ℕ} → Total m n f → Complete N n A → Complete N m (preimage n f A)
+  pub preimage-complete : {A : Partition} {N : ℕ} → Total m n f → Covering N n A → Covering N m (preimage n f A)
   preimage-complete {A} total c k lt =
       let t = total k lt in
       let r = c (t .0) (t .1) in
@@ -161,7 +161,7 @@ module _ {N n : ℕ} {start : ℕ → ℕ} (s : Starts N n start) where
       le-ind (λ m. m ≤ N → start i ≤ start m) (λ _. le-refl (start i)) (λ m _ ih l. le-trans (ih (omega arith)) (s .grows m l))
 
   -- lemma 1
-  pub contiguous-disjoint : Disjoint (contiguous N start)
+  pub contiguous-disjoint : PairwiseDisjoint (contiguous N start)
   unfolding contiguous
   contiguous-disjoint i j e h g =
       let p : ¬ (i < j) = ordered i j h g in
@@ -186,7 +186,7 @@ module _ {N n : ℕ} {start : ℕ → ℕ} (s : Starts N n start) where
       go true t r = r (ltb-true e (start k) t)
       go false t r = (k, le, pair (less! le) (pair (most! (ltb-false e (start k) t)) (less! lt)))
 
-  pub contiguous-complete : Complete N n (contiguous N start)
+  pub contiguous-complete : Covering N n (contiguous N start)
   contiguous-complete e lt = covered N (le-refl N) e (rw (s .last) lt)
 
   pub contiguous-within : Within N n (contiguous N start)

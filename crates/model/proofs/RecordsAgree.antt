@@ -10,7 +10,7 @@ use Rattle.model.specs.Outcomes.{scan}
 use Rattle.model.specs.Layout.{Plan, planOf, regionCount, mapCount, suppliedCount, nodeCount, stepCount, stepLemma, stepX, stepY, stepP, stepQ}
 use Rattle.model.specs.Nodes.{nodeFormed, nodeAgrees, duplicateNode, nodeCheck}
 use Rattle.model.specs.Lemmas.{stepFormed, stepLicensed, stepCheck}
-use Rattle.model.specs.Verdict.{regionCheck, mapCheck, suppliedCheck}
+use Rattle.model.specs.Declarations.{regionCheck, mapCheck, suppliedCheck}
 use Rattle.model.specs.PlainPlan.{NodeFormed, NodeAgrees, SameNode, StepFormed, Licence}
 use Rattle.model.specs.GivenWhen.{GivenWhen, RecordInvalid, RegionsDisagree}
 use Rattle.model.specs.declared.Refusal.{Refusal}

@@ -17,8 +17,9 @@ use Rattle.model.specs.Parallel.{isRead, isWrite, isReduce, reads, write
 use Rattle.model.specs.Nodes.{nodeFormedRows, nodeFormed, nodeRegionRows, nodeRegionStep, nodeRegion, nodeAgreesRows, nodeAgrees, sameNode, duplicateNode, nodeCheck}
 use Rattle.model.specs.Lemmas.{lemmas, lemmaRow, inUse, isSubset, isDisjoint, isComplete, concludesSubset, concludesDisjoint, concludesComplete, operandOf, licences, licence, stepFormed, stepLicensed, stepCheck}
 use Rattle.model.specs.Needs.{hasSymbol, symbol, symbolRegion, assignmentCountCheck, assignmentCheck, imageNode, boundBy, bound, loopNeedsMet, accessNeedMet, needCheck}
-use Rattle.model.specs.Verdict.{regionCheck, mapCheck, suppliedCheck, recordsCheck, planCheck, verdict}
-use Rattle.model.specs.DataSets.{dataOf, pieces, size, entryStart, entry, low, past, leads, pieceBytes, memberStart, suppliedBit, supplied, entryFits, entriesCheck, suppliedDisjoint, suppliedComplete, padBitsClear, suppliedTrue, framed, dataCheck}
+use Rattle.model.specs.Declarations.{regionCheck, mapCheck, suppliedCheck}
+use Rattle.model.specs.Verdict.{recordsCheck, planCheck, verdict}
+use Rattle.model.specs.DataSets.{dataOf, pieces, size, entryStart, entry, low, past, mapsTo, pieceBytes, memberStart, suppliedBit, supplied, entryFits, entriesCheck, suppliedDisjoint, suppliedComplete, padBitsClear, declarationsHold, wellFramed, dataCheck}
 use Rattle.model.specs.Membership.{equal, operators, nodeSets, member}
 use Rattle.model.specs.Words.{bit, holds, number, word, store}
 use Rattle.model.specs.Evaluation.{evaluationCheck, evaluation, nodeWord, filledWords}
@@ -68,8 +69,8 @@ unfolding
     lemmas lemmaRow inUse isSubset isDisjoint isComplete concludesSubset concludesDisjoint concludesComplete operandOf licences licence
     stepFormed stepLicensed hasSymbol symbol symbolRegion imageNode boundBy bound loopNeedsMet accessNeedMet
     union intersection difference image preimage contiguous equalStart
-    size entryStart entry low past leads pieceBytes memberStart suppliedBit supplied equal operators nodeSets member
-    entryFits entriesCheck suppliedDisjoint suppliedComplete padBitsClear suppliedTrue framed dataCheck
+    size entryStart entry low past mapsTo pieceBytes memberStart suppliedBit supplied equal operators nodeSets member
+    entryFits entriesCheck suppliedDisjoint suppliedComplete padBitsClear declarationsHold wellFramed dataCheck
     evaluationCheck evaluation nodeWord filledWords number word store
 evaluated = (refl, refl)
 
@@ -110,7 +111,7 @@ unfolding
     opens opensLoop kind kindOf boundary body subregion holds bit symbol hasSymbol accesses isAccess accessOf symbolRegion size pick
     _and_ _or_ non any _<?_ _≤?_ _==_ loopBefore defines definesVariable variables definition operandBy operand operandDefinition regionBy
     variableRegion below levels course centeredBy centered isReduce reduces uncentered accessOfLoop reducesThroughPointer
-    entryStart entry low past leads
+    entryStart entry low past mapsTo
 refutable =
     record {
       uncovered = λ legal.
@@ -122,11 +123,11 @@ refutable =
       twice = λ legal.
           let same : _≡_ {A = ℕ} 0 1 = legal 4 (omega arith) refl .once refl 0 0 1 (omega arith) (omega arith) refl refl in omega arith;
       read-outside = λ legal.
-          falsum (legal 0 (omega arith) refl .handed 2 0 0 0 (omega arith) refl (omega arith) refl (refl, loaded {d = 0} refl (itself refl) refl));
+          falsum (legal 0 (omega arith) refl .contained 2 0 0 0 (omega arith) refl (omega arith) refl (refl, loaded {d = 0} refl (itself refl) refl));
       load-outside = λ legal.
-          falsum (legal 0 (omega arith) refl .handed 1 0 0 0 (omega arith) refl (omega arith) refl (refl, itself refl));
+          falsum (legal 0 (omega arith) refl .contained 1 0 0 0 (omega arith) refl (omega arith) refl (refl, itself refl));
       second-outside = λ legal.
-          falsum (legal 4 (omega arith) refl .handed 6 0 0 2 (omega arith) refl (omega arith) refl (refl, called {d = 0} refl (itself refl) refl));
+          falsum (legal 4 (omega arith) refl .contained 6 0 0 2 (omega arith) refl (omega arith) refl (refl, called {d = 0} refl (itself refl) refl));
       above-size = λ legal.
-          falsum (legal 0 (omega arith) refl .handed 2 0 0 2 (omega arith) refl (omega arith) refl (refl, loaded {d = 0} refl (itself refl) refl));
+          falsum (legal 0 (omega arith) refl .contained 2 0 0 2 (omega arith) refl (omega arith) refl (refl, loaded {d = 0} refl (itself refl) refl));
     }

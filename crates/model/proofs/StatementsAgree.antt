@@ -8,7 +8,7 @@ use native.Mathlib.Omega.{arith}
 use Rattle.model.specs.Tests.{Is, _and_, _<?_}
 use Rattle.model.specs.Layout.{Plan, fields, source, statementKind, statementA, statementB}
 use Rattle.model.specs.Statements.{kindOf, kind, variables, operand, operandDefinition, variableRegion, operandRegion, statementFormedBy, statementFormed, statementAgreesBy, statementAgrees}
-use Rattle.model.specs.LoopRelations.{Defining, Sees, Room, VariableRegion}
+use Rattle.model.specs.LoopRelations.{Defining, Resolves, WithinVariableLimit, VariableRegion}
 use Rattle.model.specs.PlainPlan.{StatementFormed, for-formed, load-formed, call-formed, copy-formed, read-or-write-formed, reduce-formed, StatementAgrees}
 use Rattle.model.specs.declared.StatementKind.{StatementKind}
 use Rattle.model.proofs.Tests.{falsum, both, pair, latest, same, same!, less, less! }
@@ -24,15 +24,15 @@ four h = let t = three (both h .1) in (both h .0, t .0, t .1, t .2)
 
 module _ (P : Plan) where
   -- the region of the variable on which a statement works
-  pub operand-region : {s v d r : ℕ} → operand P s ≡ v → Sees P s v d → VariableRegion P d r → operandRegion P s ≡ r
+  pub operand-region : {s v d r : ℕ} → operand P s ≡ v → Resolves P s v d → VariableRegion P d r → operandRegion P s ≡ r
   operand-region o w q = ap (variableRegion P) (operand-seen P o w .1) ∙ region-told P q
 
   field :
-      {s v d r n : ℕ} → operand P s ≡ v → Sees P s v d → VariableRegion P d r → n < fields P r →
+      {s v d r n : ℕ} → operand P s ≡ v → Resolves P s v d → VariableRegion P d r → n < fields P r →
       Is (n <? fields P (operandRegion P s))
   field o w q f = less! (rw (operand-region o w q) f)
 
-  room : {s v d : ℕ} → Sees P s v d → Defining P s → Room P s → Is (variables P s <? 16)
+  room : {s v d : ℕ} → Resolves P s v d → Defining P s → WithinVariableLimit P s → Is (variables P s <? 16)
   room w D m = less! (room-is P (sees-started P w) D .1 m)
 
   pub formed-told : {s : ℕ} → StatementFormed P s → Is (statementFormed P s)
@@ -56,15 +56,15 @@ module _ (P : Plan) where
       (pair (less! (sees P w .0)) (pair (field (operand-a P s (omega arith) (omega arith)) w q f) (less! (omega arith))))
 
   -- what a statement works on, where it and the statements before it are formed
-  pub formed-sees : {s : ℕ} → FormedBefore P (suc s) → (statementKind P s ≡ 0 → ⊥) → Sees P s (operand P s) (operandDefinition P s)
+  pub formed-sees : {s : ℕ} → FormedBefore P (suc s) → (statementKind P s ≡ 0 → ⊥) → Resolves P s (operand P s) (operandDefinition P s)
   formed-sees {s} F n = operand-sees P (λ t l. F t (omega arith)) n (formed-operand P s n (F s (omega arith)))
 
   pub formed-sees-a :
       {s : ℕ} → FormedBefore P (suc s) → 3 ≤ statementKind P s → statementKind P s ≤ 6 →
-      Sees P s (statementA P s) (operandDefinition P s)
+      Resolves P s (statementA P s) (operandDefinition P s)
   formed-sees-a {s} F l m = rw (operand-a P s l m) at (formed-sees F (omega arith))
 
-  pub formed-sees-b : {s : ℕ} → FormedBefore P (suc s) → FollowsMap P s → Sees P s (statementB P s) (operandDefinition P s)
+  pub formed-sees-b : {s : ℕ} → FormedBefore P (suc s) → FollowsMap P s → Resolves P s (statementB P s) (operandDefinition P s)
   formed-sees-b {s} F e = rw (operand-b P s e) at (formed-sees F (⊎-elim (omega arith) (omega arith) e))
 
   pub formed-next : {s : ℕ} → FormedBefore P s → Is (statementFormed P s) → FormedBefore P (suc s)
@@ -77,7 +77,7 @@ module _ (P : Plan) where
       G : FormedBefore P (suc s)
       G = formed-next F h
 
-      has-room : Defining P s → Is (variables P s <? 16) → Room P s
+      has-room : Defining P s → Is (variables P s <? 16) → WithinVariableLimit P s
       has-room D l = room-is P (sees-started P (formed-sees G (omega arith))) D .0 (less l)
 
       region : (statementKind P s ≡ 0 → ⊥) → VariableRegion P (operandDefinition P s) (operandRegion P s)
@@ -128,7 +128,7 @@ module _ (P : Plan) where
   statement-agrees s F = (λ h m d w. plainly h m w, λ a. go a (kind-view P s))
     where
       plainly :
-          {d : ℕ} → Is (statementAgrees P s) → FollowsMap P s → Sees P s (statementB P s) d →
+          {d : ℕ} → Is (statementAgrees P s) → FollowsMap P s → Resolves P s (statementB P s) d →
           VariableRegion P d (source P (statementA P s))
       plainly h m w =
           let q = seen-region P (λ t l. F t (omega arith)) w in

@@ -6,12 +6,11 @@ use mathlib.Core.Logic.{inl, inr}
 use mathlib.Core.Bool.{Bool, true, false}
 use native.Mathlib.Omega.{arith}
 use Rattle.model.specs.Tests.{Is}
-use Rattle.model.specs.Partitions as partitions
-use Rattle.model.specs.Partitions.{Partition, image, preimage}
+use Rattle.model.specs.Partitions.{Partition, image, preimage, Contained, PairwiseDisjoint, Covering}
 use Rattle.model.specs.Layout.{Plan, nodeCount, stepCount, source, target, nodeA, nodeB, stepLemma, stepX, stepY, stepP, stepQ}
 use Rattle.model.specs.Nodes.{nodeRegion}
 use Rattle.model.specs.Lemmas.{lemmas, lemmaRow, inUse, isSubset, isDisjoint, isComplete, concludesSubset, concludesDisjoint, concludesComplete, operandOf, licences, licence, stepFormed, stepLicensed}
-use Rattle.model.specs.DataSets.{DataSet, pieces, size, leads}
+use Rattle.model.specs.DataSets.{DataSet, pieces, size, mapsTo}
 use Rattle.model.specs.Membership.{equal, member}
 use Rattle.model.specs.AcceptedPlans.{Facts}
 use Rattle.model.specs.declared.Conclusion.{Conclusion}
@@ -50,13 +49,13 @@ module _ (P : Plan) (D : DataSet) where
   pub record SubsetHolds (x y : ℕ) : Type 0 where
     pub y-listed : y < nodeCount P
     pub one-region : nodeRegion P x ≡ nodeRegion P y
-    pub subset : partitions.Subset (member P D x) (member P D y)
+    pub subset : Contained (member P D x) (member P D y)
 
   abbrev pub DisjointHolds : ℕ → Type 0
-  DisjointHolds x = partitions.Disjoint (member P D x)
+  DisjointHolds x = PairwiseDisjoint (member P D x)
 
   abbrev pub CompleteHolds : ℕ → Type 0
-  CompleteHolds x = partitions.Complete (pieces D) (size D (nodeRegion P x)) (member P D x)
+  CompleteHolds x = Covering (pieces D) (size D (nodeRegion P x)) (member P D x)
 
   abbrev pub Holds : Conclusion → ℕ → ℕ → Type 0
   Holds Subset x y = SubsetHolds x y
@@ -182,7 +181,7 @@ module _ (P : Plan) (D : DataSet) (F : Facts P) (fit : Fit P D) where
   -- 12 and 13: x and y are by one monotone operator, under one map
   under-one-map :
       {x y : ℕ} {end other : ℕ → ℕ} (operator : ℕ → Partition → Partition) →
-      ((m : ℕ) (A B : Partition) → partitions.Subset A B → partitions.Subset (operator m A) (operator m B)) →
+      ((m : ℕ) (A B : Partition) → Contained A B → Contained (operator m A) (operator m B)) →
       y < nodeCount P → OneOperand P D x end other (operator (nodeB P x)) → OneOperand P D y end other (operator (nodeB P y)) →
       nodeB P x ≡ nodeB P y → SubsetHolds P D (nodeA P x) (nodeA P y) →
       SubsetHolds P D x y
@@ -199,7 +198,7 @@ module _ (P : Plan) (D : DataSet) (F : Facts P) (fit : Fit P D) where
       let (x-kind, h) = both h in
       let (y-kind, h) = both h in
       let (one-map, premise) = both h in
-      under-one-map (λ m. image (size D (source P m)) (leads P D m)) (λ m A B. image-monotone _ _) (u .y-listed refl)
+      under-one-map (λ m. image (size D (source P m)) (mapsTo P D m)) (λ m A B. image-monotone _ _) (u .y-listed refl)
       (image-node P D F x (u .x-listed refl) (same x-kind)) (image-node P D F y (u .y-listed refl) (same y-kind)) (same one-map)
       (subset-of P D p (nodeA P x) (nodeA P y) premise (u .p-true refl))
 
@@ -209,7 +208,7 @@ module _ (P : Plan) (D : DataSet) (F : Facts P) (fit : Fit P D) where
       let (x-kind, h) = both h in
       let (y-kind, h) = both h in
       let (one-map, premise) = both h in
-      under-one-map (λ m. preimage (size D (target P m)) (leads P D m)) (λ m A B. preimage-monotone _ _) (u .y-listed refl)
+      under-one-map (λ m. preimage (size D (target P m)) (mapsTo P D m)) (λ m A B. preimage-monotone _ _) (u .y-listed refl)
       (preimage-node P D F x (u .x-listed refl) (same x-kind)) (preimage-node P D F y (u .y-listed refl) (same y-kind)) (same one-map)
       (subset-of P D p (nodeA P x) (nodeA P y) premise (u .p-true refl))
 

@@ -9,7 +9,7 @@ use Rattle.model.specs.Tests.{Is}
 use Rattle.model.specs.Recursion.{below, course}
 use Rattle.model.specs.Layout.{Plan, statementKind, statementA, statementB}
 use Rattle.model.specs.Statements.{kindOf, kind, accesses, variables, operandBy, operand, operandDefinition, regionBy, variableRegion, centeredBy, centered, statementFormedBy, statementFormed}
-use Rattle.model.specs.LoopRelations.{Sees, VariableRegion, of-loop, of-load, of-call, of-copy, Centered, loop-centered, copy-centered, AccessThrough, by-load, directly}
+use Rattle.model.specs.LoopRelations.{Resolves, VariableRegion, of-loop, of-load, of-call, of-copy, Centered, loop-centered, copy-centered, AccessThrough, by-load, directly}
 use Rattle.model.specs.declared.StatementKind.{StatementKind}
 use Rattle.model.proofs.Tests.{falsum, both, less}
 use Rattle.model.proofs.Recursion.{course-law, below-at}
@@ -55,7 +55,7 @@ module _ (P : Plan) where
       go (is-unknown e k) = absurd (omega arith)
 
   -- the variable of that number
-  pub operand-seen : {s v d : ℕ} → operand P s ≡ v → Sees P s v d → (operand P s < variables P s) × (operandDefinition P s ≡ d)
+  pub operand-seen : {s v d : ℕ} → operand P s ≡ v → Resolves P s v d → (operand P s < variables P s) × (operandDefinition P s ≡ d)
   unfolding operandDefinition
   operand-seen e w = rw e (sees P w)
 
@@ -91,7 +91,7 @@ module _ (P : Plan) where
   -- what a statement works on, as a relation
   pub operand-sees :
       {s : ℕ} → FormedBefore P s → (statementKind P s ≡ 0 → ⊥) → operand P s < variables P s →
-      Sees P s (operand P s) (operandDefinition P s)
+      Resolves P s (operand P s) (operandDefinition P s)
   unfolding operandDefinition
   operand-sees {s} F n l = seen P (started s F (omega arith)) n l
 
@@ -106,7 +106,7 @@ module _ (P : Plan) where
   region-copied s e lt = region-at s (kind-at s 3 e) ∙ below-at 0 s (variableRegion P) (operandDefinition P s) lt
 
   -- what a COPY copies
-  copied : {s d : ℕ} → statementKind P s ≡ 3 → Sees P s (statementA P s) d → operandDefinition P s ≡ d
+  copied : {s d : ℕ} → statementKind P s ≡ 3 → Resolves P s (statementA P s) d → operandDefinition P s ≡ d
   copied {s} e w = operand-seen (operand-a s (omega arith) (omega arith)) w .1
 
   pub region-told : {d r : ℕ} → VariableRegion P d r → variableRegion P d ≡ r
@@ -119,7 +119,7 @@ module _ (P : Plan) where
       region-copied d e (omega (arith, w .earlier)) ∙ ap (variableRegion P) c ∙ region-told q
 
   -- a formed COPY copies a variable that it sees
-  copy-sees : (d : ℕ) → FormedBefore P (suc d) → statementKind P d ≡ 3 → Sees P d (statementA P d) (operandDefinition P d)
+  copy-sees : (d : ℕ) → FormedBefore P (suc d) → statementKind P d ≡ 3 → Resolves P d (statementA P d) (operandDefinition P d)
   copy-sees d F e =
       let o = formed-operand d (omega arith) (F d (omega arith)) in
       rw (operand-a d (omega arith) (omega arith)) at (operand-sees (λ t l. F t (omega arith)) (omega arith) o)
@@ -151,7 +151,7 @@ module _ (P : Plan) where
   one-region u w = sym (region-told u) ∙ region-told w
 
   -- a variable that is seen has its region
-  pub seen-region : {s v d : ℕ} → FormedBefore P s → Sees P s v d → VariableRegion P d (variableRegion P d)
+  pub seen-region : {s v d : ℕ} → FormedBefore P s → Resolves P s v d → VariableRegion P d (variableRegion P d)
   seen-region F w = region-is (λ t l. F t (omega (arith, w .earlier))) (variable-kind P (w .variable)) .0 refl
 
   -- whether a variable is centered

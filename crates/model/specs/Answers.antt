@@ -6,35 +6,35 @@ use Rattle.model.specs.declared.Answer.{Answer}
 use Rattle.model.specs.declared.Answer.the-variants.{Accepted, Refused}
 
 -- what an answer tells: "Acceptance carries the numbers of symbols, nodes and steps. Refusal carries number and place, counts 0"
-pub record Told : Type 0 where
+pub record Report : Type 0 where
   pub number : ℕ
   pub place : ℕ
   pub symbols : ℕ
   pub nodes : ℕ
   pub steps : ℕ
 
-abbrev pub refusal : ℕ → ℕ → Told
+abbrev pub refusal : ℕ → ℕ → Report
 refusal n p = record { number = n; place = p; symbols = 0; nodes = 0; steps = 0 }
 
 -- the table of refusals: column "no." and the place
-unfoldable pub toldRefusal : Refusal → Told
-toldRefusal (Truncated p) = refusal 1 p
-toldRefusal UnknownEdition = refusal 2 0
-toldRefusal (TrailingBytes p) = refusal 3 p
-toldRefusal (InvalidLength p) = refusal 4 p
-toldRefusal (InvalidRecord p) = refusal 5 p
-toldRefusal (RegionMismatch p) = refusal 6 p
-toldRefusal (DuplicateNode p) = refusal 7 p
-toldRefusal (NotParallelizable p) = refusal 8 p
-toldRefusal (AssignmentCount p) = refusal 9 p
-toldRefusal (UnlicensedStep p) = refusal 10 p
-toldRefusal (UnmetNeed p) = refusal 11 p
-toldRefusal InvalidData = refusal 12 0
-toldRefusal (InvalidEntry p) = refusal 13 p
-toldRefusal (InvalidPartition p) = refusal 14 p
-toldRefusal (OutputTooSmall p) = refusal 15 p
+unfoldable pub refusalReport : Refusal → Report
+refusalReport (Truncated p) = refusal 1 p
+refusalReport UnknownEdition = refusal 2 0
+refusalReport (TrailingBytes p) = refusal 3 p
+refusalReport (InvalidLength p) = refusal 4 p
+refusalReport (InvalidRecord p) = refusal 5 p
+refusalReport (RegionMismatch p) = refusal 6 p
+refusalReport (DuplicateNode p) = refusal 7 p
+refusalReport (NotParallelizable p) = refusal 8 p
+refusalReport (AssignmentCount p) = refusal 9 p
+refusalReport (UnlicensedStep p) = refusal 10 p
+refusalReport (UnmetNeed p) = refusal 11 p
+refusalReport InvalidData = refusal 12 0
+refusalReport (InvalidEntry p) = refusal 13 p
+refusalReport (InvalidPartition p) = refusal 14 p
+refusalReport (OutputTooSmall p) = refusal 15 p
 
 -- number 0 is acceptance
-unfoldable pub told : Answer → Told
-told (Accepted symbols nodes steps) = record { number = 0; place = 0; symbols = symbols; nodes = nodes; steps = steps }
-told (Refused r) = toldRefusal r
+unfoldable pub report : Answer → Report
+report (Accepted symbols nodes steps) = record { number = 0; place = 0; symbols = symbols; nodes = nodes; steps = steps }
+report (Refused r) = refusalReport r

@@ -56,8 +56,8 @@ module _ (P : Plan) (D : DataSet) where
   past m k = pick (entry m k == NONE) (entry m k) (entry m k + 1)
 
   -- map m, over its source's elements
-  unfoldable pub leads : ℕ → Map
-  leads m k e = k <? size D (source P m) and low m k ≤? e and e <? past m k
+  unfoldable pub mapsTo : ℕ → Map
+  mapsTo m k e = k <? size D (source P m) and low m k ≤? e and e <? past m k
 
   -- "each piece in (n + 7) div 8 bytes for a region of size n"
   unfoldable pub pieceBytes : ℕ → ℕ
@@ -97,15 +97,15 @@ module _ (P : Plan) (D : DataSet) where
       every (pieces D) (λ i. every (8 * pieceBytes k - size D (suppliedRegion P k))
       (λ b. non (suppliedBit k i (size D (suppliedRegion P k) + b))))
 
-  unfoldable pub suppliedTrue : ℕ → Bool
-  suppliedTrue k =
+  unfoldable pub declarationsHold : ℕ → Bool
+  declarationsHold k =
       (non (suppliedFlags P k == 1 or suppliedFlags P k == 3) or suppliedDisjoint k)
       and (non (suppliedFlags P k == 2 or suppliedFlags P k == 3) or suppliedComplete k)
       and padBitsClear k
 
 -- Misframed: "data set empty, edition, lengths, N or sizes wrong, or bytes left over"
-unfoldable pub framed : Plan → Bytes → Bool
-framed P d =
+unfoldable pub wellFramed : Plan → Bytes → Bool
+wellFramed P d =
     1 ≤? length d and byte d 0 == 1
     and every 4 (λ n. boundary d n + 2 ≤? length d and boundary d (suc n) ≤? length d)
     and length d == boundary d 4
@@ -117,6 +117,6 @@ framed P d =
 -- "A data set fits a plan when it draws none of 12 to 14"
 unfoldable pub dataCheck : Plan → Bytes → Outcome
 dataCheck P d =
-    require (framed P d) InvalidData
+    require (wellFramed P d) InvalidData
     then scan (entriesCheck P (dataOf d)) 0 (mapCount P)
-    then scan (λ k. require (suppliedTrue P (dataOf d) k) (InvalidPartition k)) 0 (suppliedCount P)
+    then scan (λ k. require (declarationsHold P (dataOf d) k) (InvalidPartition k)) 0 (suppliedCount P)

@@ -8,7 +8,7 @@ use Rattle.model.specs.Layout.{Plan, planOf, regionCount, mapCount, supp
 use Rattle.model.specs.LoopRelations.{HasSymbol, SymbolsBefore, SymbolRegion, NodeRegion}
 use Rattle.model.specs.PlainPlan.{SectionLength, StatementFormed, StatementAgrees, ParallelizableLoop, NodeFormed, NodeAgrees, SameNode, StepFormed, Licence, NeedsConcluded}
 use Rattle.model.specs.DataSets.{dataOf, pieces, size}
-use Rattle.model.specs.PlainData.{Framed, EntryRight, SuppliedRight}
+use Rattle.model.specs.PlainData.{WellFramed, EntryFits, DeclarationsHold}
 use Rattle.model.specs.declared.Refusal.{Refusal}
 use Rattle.model.specs.declared.Refusal.the-variants.{Truncated, UnknownEdition, TrailingBytes, InvalidLength, InvalidRecord, RegionMismatch, DuplicateNode, NotParallelizable, AssignmentCount, UnlicensedStep, UnmetNeed, InvalidData, InvalidEntry, InvalidPartition, OutputTooSmall}
 
@@ -56,9 +56,9 @@ GivenWhen p d lent (UnlicensedStep t) =
     (Licence (planOf p) (stepLemma (planOf p) t) (stepX (planOf p) t) (stepY (planOf p) t) (stepP (planOf p) t) (stepQ (planOf p) t) → ⊥)
 GivenWhen p d lent (UnmetNeed k) =
     (s : ℕ) × (s < statementCount (planOf p)) × HasSymbol (planOf p) s × SymbolsBefore (planOf p) s k × (NeedsConcluded (planOf p) s → ⊥)
-GivenWhen p d lent InvalidData = Framed (planOf p) d → ⊥
+GivenWhen p d lent InvalidData = WellFramed (planOf p) d → ⊥
 GivenWhen p d lent (InvalidEntry place) =
     (m k : ℕ) × (place ≡ m * 512 + k) × (m < mapCount (planOf p)) × (k < size (dataOf d) (source (planOf p) m)) ×
-    (EntryRight (planOf p) (dataOf d) m k → ⊥)
-GivenWhen p d lent (InvalidPartition k) = (k < suppliedCount (planOf p)) × (SuppliedRight (planOf p) (dataOf d) k → ⊥)
+    (EntryFits (planOf p) (dataOf d) m k → ⊥)
+GivenWhen p d lent (InvalidPartition k) = (k < suppliedCount (planOf p)) × (DeclarationsHold (planOf p) (dataOf d) k → ⊥)
 GivenWhen p d lent (OutputTooSmall n) = (n ≡ nodeCount (planOf p) * pieces (dataOf d) * 8) × (lent < n)

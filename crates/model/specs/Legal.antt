@@ -29,7 +29,7 @@ module _ (P : Plan) (D : DataSet) (words : List ℕ) where
         Is (reducesThroughPointer P f) →
         (k i j : ℕ) → i < pieces D → j < pieces D → Is (subregion f i k) → Is (subregion f j k) → i ≡ j
     -- "for each piece that holds the iteration and each access, every touched element is in the subregion handed to that piece for that access"
-    pub handed :
+    pub contained :
         (s i k e : ℕ) → s < statementCount P → loop P s ≡ f → i < pieces D → Is (subregion f i k) → Touches P D s k e → Is (subregion s i e)
 
 abbrev pub Legal : Bytes → Bytes → List ℕ → Type 0

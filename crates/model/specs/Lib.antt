@@ -5,6 +5,7 @@ pub mod Bytes
 pub mod Recursion
 pub mod Partitions
 pub mod Layout
+pub mod Declarations
 pub mod Statements
 pub mod Parallel
 pub mod Nodes

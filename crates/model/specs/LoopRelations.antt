@@ -23,14 +23,14 @@ module _ (P : Plan) where
         {c d v : ℕ} → Variable f c v → c < d → InLoop f d → Defining d → ((t : ℕ) → c < t → t < d → Defining t → ⊥) → Variable f d (suc v)
 
   -- variable v, as statement s sees it, is the one that statement d defines
-  pub record Sees (s v d : ℕ) : Type 0 where
+  pub record Resolves (s v d : ℕ) : Type 0 where
     pub loop : ℕ
     pub within : InLoop loop s
     pub variable : Variable loop d v
     pub earlier : d < s
 
   -- "At most 16 variables per loop": statement s defines one of the first 16
-  pub record Room (s : ℕ) : Type 0 where
+  pub record WithinVariableLimit (s : ℕ) : Type 0 where
     pub loop : ℕ
     pub number : ℕ
     pub variable : Variable loop s number
@@ -41,17 +41,17 @@ module _ (P : Plan) where
     of-loop : {d r : ℕ} → statementKind P d ≡ 0 → r ≡ statementA P d → VariableRegion d r
     of-load : {d r : ℕ} → statementKind P d ≡ 1 → r ≡ target P (statementA P d) → VariableRegion d r
     of-call : {d r : ℕ} → statementKind P d ≡ 2 → r ≡ target P (statementA P d) → VariableRegion d r
-    of-copy : {d c r : ℕ} → statementKind P d ≡ 3 → Sees d (statementA P d) c → VariableRegion c r → VariableRegion d r
+    of-copy : {d c r : ℕ} → statementKind P d ≡ 3 → Resolves d (statementA P d) c → VariableRegion c r → VariableRegion d r
 
   -- "its variable is 0 or reached from 0 by COPY alone"
   pub data Centered : ℕ → Type 0 where
     loop-centered : {d : ℕ} → statementKind P d ≡ 0 → Centered d
-    copy-centered : {d c : ℕ} → statementKind P d ≡ 3 → Sees d (statementA P d) c → Centered c → Centered d
+    copy-centered : {d c : ℕ} → statementKind P d ≡ 3 → Resolves d (statementA P d) c → Centered c → Centered d
 
   -- "LOAD, READ, WRITE and REDUCE are accesses"; "LOAD is also a read .. through its variable b": access s goes through the variable that d defines
   pub data AccessThrough (s d : ℕ) : Type 0 where
-    by-load : statementKind P s ≡ 1 → Sees s (statementB P s) d → AccessThrough s d
-    directly : 4 ≤ statementKind P s → statementKind P s ≤ 6 → Sees s (statementA P s) d → AccessThrough s d
+    by-load : statementKind P s ≡ 1 → Resolves s (statementB P s) d → AccessThrough s d
+    directly : 4 ≤ statementKind P s → statementKind P s ≤ 6 → Resolves s (statementA P s) d → AccessThrough s d
 
   -- "A loop reduces through a pointer when it has an uncentered REDUCE"
   pub record ReducesThroughPointer (f : ℕ) : Type 0 where
@@ -90,6 +90,6 @@ module _ (P : Plan) where
   pub data Bound : ℕ → ℕ → Type 0 where
     of-for : {d k x : ℕ} → statementKind P d ≡ 0 → SymbolsBefore d k → x ≡ assigned P k → Bound d x
     of-image :
-        {d c x y : ℕ} → (statementKind P d ≡ 1) ⊎ (statementKind P d ≡ 2) → Sees d (statementB P d) c → Bound c y →
+        {d c x y : ℕ} → (statementKind P d ≡ 1) ⊎ (statementKind P d ≡ 2) → Resolves d (statementB P d) c → Bound c y →
         x < nodeCount P → nodeKind P x ≡ 5 → nodeA P x ≡ y → nodeB P x ≡ statementA P d → Bound d x
-    of-copy : {d c x : ℕ} → statementKind P d ≡ 3 → Sees d (statementA P d) c → Bound c x → Bound d x
+    of-copy : {d c x : ℕ} → statementKind P d ≡ 3 → Resolves d (statementA P d) c → Bound c x → Bound d x

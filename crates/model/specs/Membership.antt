@@ -5,7 +5,7 @@ use lib.ListN.{getD}
 use Rattle.model.specs.Recursion.{course}
 use Rattle.model.specs.Partitions.{Partition, empty, union, intersection, difference, image, preimage, contiguous, equalStart}
 use Rattle.model.specs.Layout.{Plan, source, target, nodeKind, nodeA, nodeB}
-use Rattle.model.specs.DataSets.{DataSet, pieces, size, leads, supplied}
+use Rattle.model.specs.DataSets.{DataSet, pieces, size, mapsTo, supplied}
 
 module _ (P : Plan) (D : DataSet) where
   -- "With N pieces, equal over n elements"
@@ -20,8 +20,8 @@ module _ (P : Plan) (D : DataSet) where
       ∷ (λ a b earlier. union (earlier a) (earlier b))
       ∷ (λ a b earlier. intersection (earlier a) (earlier b))
       ∷ (λ a b earlier. difference (earlier a) (earlier b))
-      ∷ (λ a b earlier. image (size D (source P b)) (leads P D b) (earlier a))
-      ∷ (λ a b earlier. preimage (size D (target P b)) (leads P D b) (earlier a))
+      ∷ (λ a b earlier. image (size D (source P b)) (mapsTo P D b) (earlier a))
+      ∷ (λ a b earlier. preimage (size D (target P b)) (mapsTo P D b) (earlier a))
       ∷ []
 
   -- node j, from the nodes before it

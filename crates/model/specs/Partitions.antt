@@ -42,13 +42,13 @@ unfoldable pub equalStart : ℕ → ℕ → ℕ → ℕ
 equalStart N n i = n / N * i + min i (n % N)
 
 -- SUB: "piece by piece contained"
-abbrev pub Subset : Partition → Partition → Type 0
-Subset A B = (i e : ℕ) → Is (A i e) → Is (B i e)
+abbrev pub Contained : Partition → Partition → Type 0
+Contained A B = (i e : ℕ) → Is (A i e) → Is (B i e)
 
 -- DISJ: "different pieces share nothing"
-abbrev pub Disjoint : Partition → Type 0
-Disjoint A = (i j e : ℕ) → Is (A i e) → Is (A j e) → i ≡ j
+abbrev pub PairwiseDisjoint : Partition → Type 0
+PairwiseDisjoint A = (i j e : ℕ) → Is (A i e) → Is (A j e) → i ≡ j
 
 -- COMP: "its pieces together are the region", of N pieces and n elements
-abbrev pub Complete : ℕ → ℕ → Partition → Type 0
-Complete N n A = (e : ℕ) → e < n → (i : ℕ) × (i < N) × Is (A i e)
+abbrev pub Covering : ℕ → ℕ → Partition → Type 0
+Covering N n A = (e : ℕ) → e < n → (i : ℕ) × (i < N) × Is (A i e)

@@ -6,7 +6,7 @@ use mathlib.Core.Logic.{_⊎_}
 use lib.ListN.{length}
 use Rattle.model.specs.Bytes.{Bytes, byte, boundary, body}
 use Rattle.model.specs.Layout.{Plan, planOf, regionCount, mapCount, suppliedCount, statementCount, nodeCount, assignmentCount, stepCount, fields, source, target, totality, suppliedRegion, suppliedFlags, statementKind, statementA, statementB, statementC, nodeKind, nodeA, nodeB, nodeUnused, assigned, stepLemma, stepX, stepY, stepP, stepQ}
-use Rattle.model.specs.LoopRelations.{InLoop, Sees, Room, VariableRegion, Centered, AccessThrough, ReducesThroughPointer, HasSymbol, SymbolsBefore, SymbolRegion, NodeRegion, Bound}
+use Rattle.model.specs.LoopRelations.{InLoop, Resolves, WithinVariableLimit, VariableRegion, Centered, AccessThrough, ReducesThroughPointer, HasSymbol, SymbolsBefore, SymbolRegion, NodeRegion, Bound}
 
 -- the table of sections: "record bytes" and "most" of each, and "least 1" of the regions
 pub data SectionLength (section n : ℕ) : Type 0 where
@@ -34,25 +34,25 @@ module _ (P : Plan) where
     for-formed :
         statementKind P s ≡ 0 → statementA P s < regionCount P → statementB P s ≡ 0 → statementC P s ≡ 0 → StatementFormed s
     load-formed :
-        {d r : ℕ} → statementKind P s ≡ 1 → statementA P s < mapCount P → Sees P s (statementB P s) d → Room P s →
+        {d r : ℕ} → statementKind P s ≡ 1 → statementA P s < mapCount P → Resolves P s (statementB P s) d → WithinVariableLimit P s →
         VariableRegion P d r → statementC P s < fields P r → StatementFormed s
     call-formed :
-        {d : ℕ} → statementKind P s ≡ 2 → statementA P s < mapCount P → Sees P s (statementB P s) d → Room P s →
+        {d : ℕ} → statementKind P s ≡ 2 → statementA P s < mapCount P → Resolves P s (statementB P s) d → WithinVariableLimit P s →
         statementC P s ≡ 0 → StatementFormed s
     copy-formed :
-        {d : ℕ} → statementKind P s ≡ 3 → Sees P s (statementA P s) d → Room P s → statementB P s ≡ 0 → statementC P s ≡ 0 → StatementFormed s
+        {d : ℕ} → statementKind P s ≡ 3 → Resolves P s (statementA P s) d → WithinVariableLimit P s → statementB P s ≡ 0 → statementC P s ≡ 0 → StatementFormed s
     read-or-write-formed :
-        {d r : ℕ} → (statementKind P s ≡ 4) ⊎ (statementKind P s ≡ 5) → Sees P s (statementA P s) d → VariableRegion P d r →
+        {d r : ℕ} → (statementKind P s ≡ 4) ⊎ (statementKind P s ≡ 5) → Resolves P s (statementA P s) d → VariableRegion P d r →
         statementB P s < fields P r → statementC P s ≡ 0 → StatementFormed s
     reduce-formed :
-        {d r : ℕ} → statementKind P s ≡ 6 → Sees P s (statementA P s) d → VariableRegion P d r →
+        {d r : ℕ} → statementKind P s ≡ 6 → Resolves P s (statementA P s) d → VariableRegion P d r →
         statementB P s < fields P r → statementC P s ≤ 3 → StatementFormed s
 
   -- "LOAD and CALL need a variable of the map's source"
   abbrev pub StatementAgrees : ℕ → Type 0
   StatementAgrees s =
       (statementKind P s ≡ 1) ⊎ (statementKind P s ≡ 2) →
-      (d : ℕ) → Sees P s (statementB P s) d → VariableRegion P d (source P (statementA P s))
+      (d : ℕ) → Resolves P s (statementB P s) d → VariableRegion P d (source P (statementA P s))
 
   -- the three conditions of the loop that FOR f opens
   pub record ParallelizableLoop (f : ℕ) : Type 0 where
@@ -170,7 +170,7 @@ module _ (P : Plan) where
         (x t : ℕ) × Bound P d x × (x < nodeCount P) × (t < stepCount P) × ConcludesSubset t x (assigned P k)
 
 -- a plan's bytes read by the layout
-pub record Reads (p : Bytes) : Type 0 where
+pub record WellFormed (p : Bytes) : Type 0 where
   pub some-byte : 1 ≤ length p
   pub edition : byte p 0 ≡ 1
   pub sections-end : (n : ℕ) → n < 7 → boundary p (suc n) ≤ length p

@@ -5,7 +5,7 @@ use mathlib.Core.Logic.{_↔_}
 use mathlib.Core.List.{List}
 use mathlib.Core.Bool.{false}
 use lib.ListN.{length}
-use Rattle.model.specs.Answers.{told}
+use Rattle.model.specs.Answers.{report}
 use Rattle.model.specs.Bytes.{Bytes, body}
 use Rattle.model.specs.Layout.{planOf, statementCount, nodeCount}
 use Rattle.model.specs.Nodes.{nodeRegion}
@@ -15,7 +15,7 @@ use Rattle.model.specs.Membership.{member}
 use Rattle.model.specs.Words.{holds}
 use Rattle.model.specs.Evaluation.{evaluation, wordsAfter}
 use Rattle.model.specs.LoopRelations.{SymbolsBefore}
-use Rattle.model.specs.PlainPlan.{Reads, Parallelizable, Licensed, Concluded}
+use Rattle.model.specs.PlainPlan.{WellFormed, Parallelizable, Licensed, Concluded}
 use Rattle.model.specs.Legal.{Legal}
 use Rattle.model.specs.declared.Answer.{Answer}
 use Rattle.model.specs.declared.Answer.the-variants.{Accepted}
@@ -27,10 +27,10 @@ Accepts r = (symbols nodes steps : ℕ) × (r ≡ Accepted symbols nodes steps)
 -- checking the plan's bytes p answers r
 pub record CheckPromise (p : Bytes) (r : Answer) : Type 0 where
   -- number, place and counts are the verdict's
-  pub answer : told r ≡ told (verdict p)
+  pub answer : report r ≡ report (verdict p)
   -- demand 2: "A plan is accepted EXACTLY when it reads by the layout, its loops are parallelizable, each lemma step is licensed, and each
   -- need inferred from the loops is concluded by a step"
-  pub exactly : Accepts r ↔ (Reads p × Parallelizable p × Licensed p × Concluded p)
+  pub exactly : Accepts r ↔ (WellFormed p × Parallelizable p × Licensed p × Concluded p)
   -- the counts of an acceptance: symbols are the FORs and accesses, nodes and steps are records
   pub counts :
       (symbols nodes steps : ℕ) → r ≡ Accepted symbols nodes steps →
@@ -39,7 +39,7 @@ pub record CheckPromise (p : Bytes) (r : Answer) : Type 0 where
 -- evaluating plan p over data set d into words that held `old` answers r and leaves `new`
 pub record EvaluationPromise (p d : Bytes) (old new : List ℕ) (r : Answer) : Type 0 where
   -- number, place and counts are the definition's
-  pub answer : told r ≡ told (evaluation p d (length old))
+  pub answer : report r ≡ report (evaluation p d (length old))
   -- the final words, every one: the old ones after a refusal, and past the nodes' words
   pub words : new ≡ wordsAfter p d old r
   -- demand 2: "Evaluated subregions are the sets the published operators define, no more and no less"

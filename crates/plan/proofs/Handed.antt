@@ -11,7 +11,7 @@ use Rattle.model.specs.Parallel.{reads, writes, reduces, uncentered, accessOfLo
 use Rattle.model.specs.Nodes.{nodeFormedRows, nodeFormed, nodeRegionRows, nodeRegionStep, nodeRegion, nodeAgreesRows, nodeAgrees, sameNode, duplicateNode, nodeCheck}
 use Rattle.model.specs.Lemmas.{concludesSubset, concludesDisjoint, concludesComplete, operandOf, licences, licence, stepFormed, stepLicensed, stepCheck}
 use Rattle.model.specs.Needs.{hasSymbol, symbol, symbolRegion, assignmentCountCheck, assignmentCheck, imageNode, boundBy, bound, loopNeedsMet, accessNeedMet, needCheck}
-use Rattle.model.specs.Verdict.{regionCheck, mapCheck, suppliedCheck}
+use Rattle.model.specs.Declarations.{regionCheck, mapCheck, suppliedCheck}
 use Rattle.layout.specs.Parts.{parts}
 use Rattle.model.specs.Outcomes.{_then_}
 use Rattle.plan.specs.Needs.{NeedsKnown}

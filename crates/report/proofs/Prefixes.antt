@@ -15,7 +15,7 @@ use Rattle.model.specs.Tests.{Is, _and_, non, _≤?_}
 use Rattle.model.specs.Outcomes.{require, _then_, scan, conclude}
 use Rattle.model.specs.Layout.{Plan, planOf, sectionCheck, layoutCheck}
 use Rattle.model.specs.Verdict.{planCheck, accepted}
-use Rattle.model.specs.DataSets.{dataOf, dataCheck, framed}
+use Rattle.model.specs.DataSets.{dataOf, dataCheck, wellFramed}
 use Rattle.model.specs.Evaluation.{wordsNeeded, evaluationCheck, evaluation}
 use Rattle.model.specs.declared.Answer.{Answer}
 use Rattle.model.specs.declared.Answer.the-variants.{Accepted}
@@ -118,8 +118,8 @@ module _ (p : Bytes) (bytes : (i : ℕ) → byte p i < 256) (k : ℕ) (room : 1 
 
 -- a data set that is longer than all its sections can be, and its first k bytes
 module _ (P : Plan) where
-  not-framed : (d : Bytes) → boundary d 4 < length d → Is (framed P d) → ⊥
-  unfolding framed
+  not-framed : (d : Bytes) → boundary d 4 < length d → Is (wellFramed P d) → ⊥
+  unfolding wellFramed
   not-framed d long h = let e = same (both (both (both (both h .1) .1) .1) .0) in omega arith
 
   data-refused : (d : Bytes) → boundary d 4 < length d → dataCheck P d ≡ Refuse InvalidData

@@ -44,12 +44,12 @@ fn output_words() -> [u64; 6144]
 fn print_report(plan: &[u8], data: &[u8]) {
     let mut words = output_words();
     let answer = evaluate(plan, data, &mut words);
-    let told = answers::tell(answer);
+    let report = answers::report_answer(answer);
     if !listing::print_answer(answer) {
         os::fail(b"standard output");
         return;
     }
-    if !print_symbols(plan, data, &words, told.symbols) {
+    if !print_symbols(plan, data, &words, report.symbols) {
         os::fail(b"standard output");
     }
 }

@@ -11,7 +11,7 @@ use Rattle.model.specs.Tests.{_and_, _or_, non, any}
 use Rattle.model.specs.Partitions.{Partition, union, intersection, difference, image, preimage}
 use Rattle.model.specs.Layout.{Plan, nodeCount, source, target, nodeKind, nodeB}
 use Rattle.model.specs.Nodes.{nodeRegion}
-use Rattle.model.specs.DataSets.{DataSet, pieces, size, leads}
+use Rattle.model.specs.DataSets.{DataSet, pieces, size, mapsTo}
 use Rattle.model.specs.Membership.{nodeSets, member}
 use Rattle.model.specs.Words.{holds, word, store}
 use Rattle.model.specs.Evaluation.{wordsNeeded, nodeWord, filledWords}
@@ -49,10 +49,10 @@ module _ (P : Plan) (D : DataSet) (F : Facts P) where
         at (sets-difference P D j H k) ∙ ap₂ (λ (s t : Bool). s and non t) (operand _ (n .left-earlier)) (operand _ (n .right-earlier)) ∙ sym (at (n .holds)))
         also (λ k. let n = image-node P D F j lt k in
         at (sets-image P D j H k)
-        ∙ ap (λ (set : ℕ → Bool). any (size D (source P (nodeB P j))) (λ x. set x and leads P D (nodeB P j) x e)) (earlier _ (n .earlier)) ∙ sym (at (n .holds)))
+        ∙ ap (λ (set : ℕ → Bool). any (size D (source P (nodeB P j))) (λ x. set x and mapsTo P D (nodeB P j) x e)) (earlier _ (n .earlier)) ∙ sym (at (n .holds)))
         also (λ k. let n = preimage-node P D F j lt k in
         at (sets-preimage P D j H k)
-        ∙ ap (λ (set : ℕ → Bool). any (size D (target P (nodeB P j))) (λ x. leads P D (nodeB P j) e x and set x)) (earlier _ (n .earlier)) ∙ sym (at (n .holds)))
+        ∙ ap (λ (set : ℕ → Bool). any (size D (target P (nodeB P j))) (λ x. mapsTo P D (nodeB P j) e x and set x)) (earlier _ (n .earlier)) ∙ sym (at (n .holds)))
         also tt)
         (nodeKind P j) (omega arith) (kind-known P D F j lt) refl
 

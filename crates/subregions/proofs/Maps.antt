@@ -143,8 +143,8 @@ module _ (entries : Bytes) (start members : ℕ) (elements : ℕ → Bool) where
       (λ t. let k = some-of t in among (k .0, k .1, pair (pair (both (k .2) .0) (refuted (λ h. falsum (sym (ap (λ (r : ℕ). bit r (k .0)) z ∙ bit-zero (k .0)) ∙ h)))) (both (k .2) .1))))
 
 -- an entry that leads to an element
-pub leads-to : (u e : ℕ) → e < 512 → (e == min u 512) ≡ (e == u)
-leads-to u e l = agree (λ t. let q = same t in same! (omega arith)) (λ t. let q = same t in same! (omega arith))
+pub entry-cut : (u e : ℕ) → e < 512 → (e == min u 512) ≡ (e == u)
+entry-cut u e l = agree (λ t. let q = same t in same! (omega arith)) (λ t. let q = same t in same! (omega arith))
 
 module _ (entries : Bytes) (start : ℕ) (elements : ℕ → Bool) where
   pub entries-none : (e : ℕ) → false ≡ entriesOf 0 entries start elements e

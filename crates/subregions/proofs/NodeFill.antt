@@ -14,7 +14,7 @@ use Rattle.model.specs.Tests.{_and_, _or_, pick, _==_, _<?_, non}
 use Rattle.model.specs.Partitions.{Partition, union, intersection, difference, image, preimage, contiguous}
 use Rattle.model.specs.Layout.{Plan, suppliedCount, nodeCount, source, target, suppliedRegion, nodeKind, nodeA, nodeB}
 use Rattle.model.specs.Nodes.{SUPPLIED, EQUAL, UNION, INTERSECTION, DIFFERENCE, IMAGE, PREIMAGE, nodeRegion}
-use Rattle.model.specs.DataSets.{DataSet, NONE, pieces, size, entryStart, entry, low, past, leads, pieceBytes, memberStart, suppliedBit, supplied}
+use Rattle.model.specs.DataSets.{DataSet, NONE, pieces, size, entryStart, entry, low, past, mapsTo, pieceBytes, memberStart, suppliedBit, supplied}
 use Rattle.model.specs.Membership.{equal, operators, nodeSets}
 use Rattle.model.specs.Words.{bit, holds, store}
 use Rattle.model.proofs.Tests.{both, pair, one, less, less!, most, most!, same, same!, split, fails, some-of, among, pick-true, pick-false, either}
@@ -29,9 +29,9 @@ use Rattle.bitsets.proofs.Bits.{agree, refute}
 use Rattle.subregions.proofs.Piece.{product}
 
 -- an entry below 512 is not none: it leads to one element
-leads-is : (P : Plan) (D : DataSet) (m k e : ℕ) → e < 512 → leads P D m k e ≡ (k <? size D (source P m) and entry P D m k == e)
-unfolding leads low past
-leads-is P D m k e h =
+maps-to-is : (P : Plan) (D : DataSet) (m k e : ℕ) → e < 512 → mapsTo P D m k e ≡ (k <? size D (source P m) and entry P D m k == e)
+unfolding mapsTo low past
+maps-to-is P D m k e h =
     agree
     (λ t.
     let inside = both t .0 in
@@ -49,26 +49,26 @@ leads-is P D m k e h =
 -- image and preimage, of a set whose elements below the size of its region are the operand's
 module _ (P : Plan) (D : DataSet) (m : ℕ) (A : Partition) (i : ℕ) (S : ℕ → Bool) where
   image-is : ((k : ℕ) → (k <? size D (source P m) and S k) ≡ A i k) → (e : ℕ) → e < 512
-      → entriesOf (size D (source P m)) (D .entries) (entryStart P D m) S e ≡ image (size D (source P m)) (leads P D m) A i e
+      → entriesOf (size D (source P m)) (D .entries) (entryStart P D m) S e ≡ image (size D (source P m)) (mapsTo P D m) A i e
   unfolding entriesOf image entry
   image-is is e h =
       agree
       (λ t. let k = some-of t in
-      among (k .0, k .1, pair (sym (is (k .0)) ∙ pair (less! (k .1)) (both (k .2) .0)) (leads-is P D m (k .0) e h ∙ pair (less! (k .1)) (both (k .2) .1))))
+      among (k .0, k .1, pair (sym (is (k .0)) ∙ pair (less! (k .1)) (both (k .2) .0)) (maps-to-is P D m (k .0) e h ∙ pair (less! (k .1)) (both (k .2) .1))))
       (λ t. let k = some-of t in
-      among (k .0, k .1, pair (both (is (k .0) ∙ both (k .2) .0) .1) (both (sym (leads-is P D m (k .0) e h) ∙ both (k .2) .1) .1)))
+      among (k .0, k .1, pair (both (is (k .0) ∙ both (k .2) .0) .1) (both (sym (maps-to-is P D m (k .0) e h) ∙ both (k .2) .1) .1)))
 
   preimage-is : size D (target P m) ≤ 512 → ((e : ℕ) → (e <? size D (target P m) and S e) ≡ A i e) → (k : ℕ)
-      → leadingTo (size D (source P m)) (D .entries) (entryStart P D m) (size D (target P m)) S k ≡ preimage (size D (target P m)) (leads P D m) A i k
+      → leadingTo (size D (source P m)) (D .entries) (entryStart P D m) (size D (target P m)) S k ≡ preimage (size D (target P m)) (mapsTo P D m) A i k
   unfolding leadingTo preimage entry
   preimage-is few is k =
       agree
       (λ t.
       let v = less (both (both t .1) .0) in
-      among (entry P D m k, v, pair (leads-is P D m k (entry P D m k) (omega arith) ∙ pair (both t .0) (same! refl)) (sym (is (entry P D m k)) ∙ both t .1)))
+      among (entry P D m k, v, pair (maps-to-is P D m k (entry P D m k) (omega arith) ∙ pair (both t .0) (same! refl)) (sym (is (entry P D m k)) ∙ both t .1)))
       (λ t.
       let e = some-of t in
-      let to = sym (leads-is P D m k (e .0) (omega (arith, e .1))) ∙ both (e .2) .0 in
+      let to = sym (maps-to-is P D m k (e .0) (omega (arith, e .1))) ∙ both (e .2) .0 in
       pair (both to .0) (rw (same (both to .1)) (is (e .0) ∙ both (e .2) .1)))
 
 -- a test taken out of both operands
@@ -138,11 +138,11 @@ module _ (P : Plan) (D : DataSet) (j : ℕ) (H : ℕ → Partition) where
   unfolding operators
   sets-difference = at-kind DIFFERENCE
 
-  pub sets-image : nodeKind P j ≡ IMAGE → nodeSets P D j H ≡ image (size D (source P (nodeB P j))) (leads P D (nodeB P j)) (H (nodeA P j))
+  pub sets-image : nodeKind P j ≡ IMAGE → nodeSets P D j H ≡ image (size D (source P (nodeB P j))) (mapsTo P D (nodeB P j)) (H (nodeA P j))
   unfolding operators
   sets-image = at-kind IMAGE
 
-  pub sets-preimage : nodeKind P j ≡ PREIMAGE → nodeSets P D j H ≡ preimage (size D (target P (nodeB P j))) (leads P D (nodeB P j)) (H (nodeA P j))
+  pub sets-preimage : nodeKind P j ≡ PREIMAGE → nodeSets P D j H ≡ preimage (size D (target P (nodeB P j))) (mapsTo P D (nodeB P j)) (H (nodeA P j))
   unfolding operators
   sets-preimage = at-kind PREIMAGE
 

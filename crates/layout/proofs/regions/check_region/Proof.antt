@@ -1,7 +1,7 @@
 -- The test is the definition's, of the byte read. Assumes nothing.
 use borrow.Author.Needs.{needs}
 use Rattle.model.specs.Tests.{_and_, _≤?_}
-use Rattle.model.specs.Verdict.{regionCheck}
+use Rattle.model.specs.Declarations.{regionCheck}
 use Rattle.layout.proofs.regions.check_region.Tie as tie
 use Rattle.layout.proofs.regions.check_region.Statement.{statement}
 

@@ -1,7 +1,7 @@
 -- The test is the definition's, of the bytes read. Assumes nothing.
 use borrow.Author.Needs.{needs}
 use Rattle.model.specs.Tests.{_and_, _<?_, _≤?_}
-use Rattle.model.specs.Verdict.{suppliedCheck}
+use Rattle.model.specs.Declarations.{suppliedCheck}
 use Rattle.layout.proofs.supplied.check_partition.Tie as tie
 use Rattle.layout.proofs.supplied.check_partition.Statement.{statement}
 

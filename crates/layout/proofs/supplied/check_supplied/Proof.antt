@@ -3,7 +3,7 @@ use Prim.Native.Nat.{_-_, _/_}
 use mathlib.Core.List.{[]}
 use lib.ListN.{length}
 use borrow.Author.Needs.{needs}
-use Rattle.model.specs.Verdict.{suppliedCheck}
+use Rattle.model.specs.Declarations.{suppliedCheck}
 use Rattle.layout.specs.Parts.{parts}
 use Rattle.layout.proofs.Scanning.{Scanning, scanning-start, scanning-next, scanning-refused, scanning-end}
 use Rattle.layout.proofs.supplied.check_supplied.Tie as tie

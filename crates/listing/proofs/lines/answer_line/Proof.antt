@@ -7,8 +7,8 @@ use borrow.Author.Needs.{needs}
 use Rattle.listing.proofs.lines.answer_line.Statement.{statement}
 use Rattle.listing.proofs.lines.answer_line.Tie as tie
 
-tell-requires : tie.Need-tell-requires
-tell-requires c κs = search needs
+report-answer-requires : tie.Need-report-answer-requires
+report-answer-requires c κs = search needs
 
 accepted-line-requires : tie.Need-accepted-line-requires
 accepted-line-requires c κs = search needs
@@ -22,9 +22,9 @@ same-length c = search needs
 returns : tie.Need-returns
 unfolding answerText
 returns c =
-    let told = c .before .before .before .before .before .before .tell .ensures in
-    let zero = rw told at (c .before .before .before .before .if1 .taken) in
-    rw (pick-true _ _ _ (same! zero)) (rw told at (c .before .before .accepted-line .ensures))
+    let report = c .before .before .before .before .before .before .report-answer .ensures in
+    let zero = rw report at (c .before .before .before .before .if1 .taken) in
+    rw (pick-true _ _ _ (same! zero)) (rw report at (c .before .before .accepted-line .ensures))
 
 same-length-2 : tie.Need-same-length-2
 same-length-2 c = search needs
@@ -32,15 +32,15 @@ same-length-2 c = search needs
 returns-2 : tie.Need-returns-2
 unfolding answerText _==_
 returns-2 c =
-    let told = c .before .before .before .before .before .before .tell .ensures in
-    let other = rw told at (c .before .before .before .before .if1 .left) in
-    rw (pick-false _ _ _ (ne-eqb _ _ other)) (rw told at (c .before .before .refused-line .ensures))
+    let report = c .before .before .before .before .before .before .report-answer .ensures in
+    let other = rw report at (c .before .before .before .before .if1 .left) in
+    rw (pick-false _ _ _ (ne-eqb _ _ other)) (rw report at (c .before .before .refused-line .ensures))
 
 pub answer-line-spec : {M : Type 1} → statement M
 answer-line-spec =
     tie.close
     (tie.spec
-    tell-requires
+    report-answer-requires
     accepted-line-requires
     refused-line-requires
     same-length

@@ -9,7 +9,7 @@ use Rattle.model.specs.Tests.{Is, _or_, _==_}
 use Rattle.model.proofs.Tests.{both}
 use Rattle.model.specs.Words.{bit}
 use Rattle.subregions.specs.Operators.{Holding}
-use Rattle.subregions.proofs.Maps.{gathered, gathered-none, gathered-next, gathered-all, leads-to}
+use Rattle.subregions.proofs.Maps.{gathered, gathered-none, gathered-next, gathered-all, entry-cut}
 use Rattle.subregions.proofs.Piece.{holding-same, holding-added}
 use Rattle.subregions.proofs.Zeros.{Lowest, lowest}
 use borrow.Author.Needs.{needs}
@@ -60,7 +60,7 @@ loop-again c =
       λ b t. l .inv .1 b (both (sym (n .cleared b) ∙ t) .0),
       λ elements h. holding-added _ _ _ _ (omega (arith, c .before .target .ensures)) (l .inv .2 elements h)
           (λ e m. ap (λ (v : ℕ). gathered (a .entries .now) (a .start) (a .members) elements (l .rest) e or e == v) (c .before .target .ensures)
-          ∙ ap (λ (t : Bool). gathered (a .entries .now) (a .start) (a .members) elements (l .rest) e or t) (leads-to _ e m)
+          ∙ ap (λ (t : Bool). gathered (a .entries .now) (a .start) (a .members) elements (l .rest) e or t) (entry-cut _ e m)
           ∙ gathered-next (a .entries .now) (a .start) (a .members) elements (l .rest) _ _ _ (n .inside) (n .member) (l .inv .1 _ (n .member)) refl (n .cleared) e),
     )
 

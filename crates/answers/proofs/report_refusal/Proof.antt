@@ -1,12 +1,12 @@
 -- By the fifteen cases of the refusal. Assumes nothing.
 use borrow.Author.Needs.{needs}
-use Rattle.model.specs.Answers.{toldRefusal}
-use Rattle.answers.proofs.tell_refusal.Statement.{statement}
-use Rattle.answers.proofs.tell_refusal.Tie as tie
+use Rattle.model.specs.Answers.{refusalReport}
+use Rattle.answers.proofs.report_refusal.Statement.{statement}
+use Rattle.answers.proofs.report_refusal.Tie as tie
 
-pub tell-refusal-spec : {M : Type 1} → statement M
-unfolding toldRefusal
-tell-refusal-spec =
+pub report-refusal-spec : {M : Type 1} → statement M
+unfolding refusalReport
+report-refusal-spec =
     tie.close
     (tie.spec
     (λ c. search needs)
