@@ -1,25 +1,32 @@
 -- No value of an answer is free: what it tells determines it. Assumes nothing.
+use Prim.Native.Nat.{ℕ}
 use mathlib.Core.Path.{_≡_, refl, sym, _∙_, ap}
-use mathlib.Core.List.{[], _∷_}
-use lib.ListN.{getD}
+use mathlib.Core.List.{List, [], _∷_}
+use Rattle.model.specs.Tests.{pick, _==_}
 use Rattle.model.specs.Answers.{Report, refusalReport, report}
+use Rattle.model.specs.declared.Refusal.{Refusal}
 use Rattle.model.specs.declared.Refusal.the-variants.{Truncated, UnknownEdition, TrailingBytes, InvalidLength, InvalidRecord, RegionMismatch, DuplicateNode, NotParallelizable, AssignmentCount, UnlicensedStep, UnmetNeed, InvalidData, InvalidEntry, InvalidPartition, OutputTooSmall}
 use Rattle.model.specs.declared.Answer.{Answer}
 use Rattle.model.specs.declared.Answer.the-variants.{Accepted, Refused}
 
+-- the refusals, each from its place
+abbrev refusals : List (ℕ → Refusal)
+refusals =
+    Truncated ∷ (λ p. UnknownEdition) ∷ TrailingBytes ∷ InvalidLength ∷ InvalidRecord ∷ RegionMismatch ∷ DuplicateNode ∷ NotParallelizable ∷
+    AssignmentCount ∷ UnlicensedStep ∷ UnmetNeed ∷ (λ p. InvalidData) ∷ InvalidEntry ∷ InvalidPartition ∷ OutputTooSmall ∷ []
+
+-- the one of them that has the number
+unfoldable numbered : List (ℕ → Refusal) → Report → Refusal
+numbered [] t = UnknownEdition
+numbered (r ∷ rest) t = let others = numbered rest t in pick (refusalReport (r (t .place)) .number == t .number) (r (t .place)) others
+
 -- the answer that tells this
 unfoldable reporting : Report → Answer
 reporting t =
-    getD
-    (Accepted (t .symbols) (t .nodes) (t .steps) ∷ Refused (Truncated (t .place)) ∷ Refused UnknownEdition ∷ Refused (TrailingBytes (t .place)) ∷
-    Refused (InvalidLength (t .place)) ∷ Refused (InvalidRecord (t .place)) ∷ Refused (RegionMismatch (t .place)) ∷
-    Refused (DuplicateNode (t .place)) ∷ Refused (NotParallelizable (t .place)) ∷ Refused (AssignmentCount (t .place)) ∷
-    Refused (UnlicensedStep (t .place)) ∷ Refused (UnmetNeed (t .place)) ∷ Refused InvalidData ∷ Refused (InvalidEntry (t .place)) ∷
-    Refused (InvalidPartition (t .place)) ∷ Refused (OutputTooSmall (t .place)) ∷ [])
-    (t .number) (Refused UnknownEdition)
+    let refused = Refused (numbered refusals t) in pick (t .number == 0) (Accepted (t .symbols) (t .nodes) (t .steps)) refused
 
 reported-back : (a : Answer) → reporting (report a) ≡ a
-unfolding report refusalReport reporting
+unfolding report refusalReport reporting numbered pick _==_
 reported-back (Accepted s n t) = refl
 reported-back (Refused (Truncated p)) = refl
 reported-back (Refused UnknownEdition) = refl

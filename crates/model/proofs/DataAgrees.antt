@@ -6,12 +6,16 @@ use native.Mathlib.Omega.{arith}
 use lib.ListN.{length}
 use Rattle.model.specs.Tests.{Is, _and_, non, pick, _==_, _<?_, _≤?_}
 use Rattle.model.specs.Bytes.{Bytes, boundary}
+use Rattle.model.specs.Outcomes.{require, scan}
 use Rattle.model.specs.Partitions.{PairwiseDisjoint, Covering}
-use Rattle.model.specs.Layout.{Plan, planOf, source, target, totality, suppliedRegion}
+use Rattle.model.specs.Layout.{Plan, mapCount, suppliedCount, source, target, totality, suppliedRegion}
 use Rattle.model.specs.DataSets.{DataSet, dataOf, NONE, pieces, size, entry, low, past, mapsTo, entryFits, entriesCheck, pieceBytes, suppliedBit, supplied, suppliedDisjoint, suppliedComplete, padBitsClear, declarationsHold, wellFramed, dataCheck}
 use Rattle.model.specs.PlainData.{WellFramed, PointsTo, EntryFits, DeclarationsHold, Fits}
-use Rattle.model.specs.GivenWhen.{GivenWhen}
+use Rattle.model.specs.Answers.{refusalReport}
+use Rattle.model.specs.GivenWhen.{DataGivenWhen, invalid-data, invalid-entry, invalid-partition}
 use Rattle.model.specs.declared.Refusal.{Refusal}
+use Rattle.model.specs.declared.Refusal.the-variants.{InvalidPartition}
+use Rattle.model.specs.declared.Outcome.{Outcome}
 use Rattle.model.specs.declared.Outcome.the-variants.{Pass, Refuse}
 use Rattle.model.proofs.Tests.{lacks, refuted, both, pair, implied, implies, same, same!, less, less!, most, most!, which, which!, some-of, among, every-at, every-of, pick-true, pick-false, fails, split}
 use Rattle.model.proofs.Outcomes.{then-pass, passes-then, then-cases, require-pass, required, require-refuse, scan-pass, passes-scan, scan-refuse}
@@ -150,41 +154,66 @@ module _ (P : Plan) (D : DataSet) where
         (pair (implies (λ t. complete-sets k .1 (s .complete (which t)))) (pad-bits k .1 (s .pad-bits))),
   )
 
--- a data set draws none of 12 to 14 exactly where it fits
+-- the checks of the entries, and of the supplied partitions
+abbrev entriesChecked : Plan → Bytes → Outcome
+entriesChecked P d = scan (entriesCheck P (dataOf d)) 0 (mapCount P)
+
+abbrev partitionsChecked : Plan → Bytes → Outcome
+partitionsChecked P d = scan (λ k. require (declarationsHold P (dataOf d) k) (InvalidPartition k)) 0 (suppliedCount P)
+
+-- a data set draws none of 12 to 14 exactly where it fits; which of entries and partitions comes first does not matter here
 fits-plainly : (P : Plan) (d : Bytes) → dataCheck P d ≡ Pass → Fits P d
 unfolding dataCheck entriesCheck
 fits-plainly P d h =
-    let h1 = then-pass _ _ h in
-    let h2 = then-pass _ _ (h1 .1) in
+    let (framed, h) = then-pass _ _ h in
+    let (earlier, later) = then-pass _ _ h in
+    let entries : entriesChecked P d ≡ Pass = search in
+    let partitions : partitionsChecked P d ≡ Pass = search in
     record {
-      frame = frame-fits P d .0 (require-pass _ _ (h1 .0));
-      entries = λ m k lm lk. entry-fits P (dataOf d) m k .0 (require-pass _ _ (scan-pass _ _ (scan-pass _ _ (h2 .0) m lm) k lk));
-      supplied = λ k lk. supplied-right P (dataOf d) k .0 (require-pass _ _ (scan-pass _ _ (h2 .1) k lk));
+      frame = frame-fits P d .0 (require-pass _ _ framed);
+      entries = λ m k lm lk. entry-fits P (dataOf d) m k .0 (require-pass _ _ (scan-pass _ _ (scan-pass _ _ entries m lm) k lk));
+      supplied = λ k lk. supplied-right P (dataOf d) k .0 (require-pass _ _ (scan-pass _ _ partitions k lk));
     }
 
 passes-data : (P : Plan) (d : Bytes) → Fits P d → dataCheck P d ≡ Pass
 unfolding dataCheck entriesCheck
 passes-data P d f =
-    passes-then (required _ _ (frame-fits P d .1 (f .frame)))
-    (passes-then
-    (passes-scan _ _ (λ m lm. passes-scan _ _ (λ k lk. required _ _ (entry-fits P (dataOf d) m k .1 (f .entries m k lm lk)))))
-    (passes-scan _ _ (λ k lk. required _ _ (supplied-right P (dataOf d) k .1 (f .supplied k lk)))))
+    let entries : entriesChecked P d ≡ Pass =
+    passes-scan _ _ (λ m lm. passes-scan _ _ (λ k lk. required _ _ (entry-fits P (dataOf d) m k .1 (f .entries m k lm lk)))) in
+    let partitions : partitionsChecked P d ≡ Pass =
+    passes-scan _ _ (λ k lk. required _ _ (supplied-right P (dataOf d) k .1 (f .supplied k lk))) in
+    passes-then (required _ _ (frame-fits P d .1 (f .frame))) (passes-then (search) (search))
 
 pub data-fits : (P : Plan) (d : Bytes) → (dataCheck P d ≡ Pass) ↔ Fits P d
 data-fits P d = (fits-plainly P d, passes-data P d)
 
-pub data-refuses : (p d : Bytes) (lent : ℕ) (r : Refusal) → dataCheck (planOf p) d ≡ Refuse r → GivenWhen p d lent r
-unfolding dataCheck entriesCheck
-data-refuses p d lent r h =
-    then-cases _ _ r h
-    (λ e. let f = require-refuse _ _ r e in rw (← f .1) (λ w. lacks (f .0) (frame-fits (planOf p) d .1 w)))
-    (λ framed h2. then-cases _ _ r h2
-    (λ e.
-    let w = scan-refuse _ _ r e in
-    let v = scan-refuse _ _ r (w .refuses) in
-    let f = require-refuse _ _ r (v .refuses) in
-    rw (← f .1) (w .at, v .at, refl, omega (arith, w .inside), omega (arith, v .inside), λ s. lacks (f .0) (entry-fits (planOf p) (dataOf d) (w .at) (v .at) .1 s)))
-    (λ entries e.
-    let w = scan-refuse _ _ r e in
-    let f = require-refuse _ _ r (w .refuses) in
-    rw (← f .1) (omega (arith, w .inside), λ s. lacks (f .0) (supplied-right (planOf p) (dataOf d) (w .at) .1 s))))
+-- where a data set is refused, the table's "given when" holds at the place
+module _ (P : Plan) (d : Bytes) (r : Refusal) where
+  abbrev pub DataGiven : Type 0
+  DataGiven = DataGivenWhen P d (refusalReport r .number) (refusalReport r .place)
+
+  entries-refuse : entriesChecked P d ≡ Refuse r → DataGiven
+  unfolding entriesCheck refusalReport
+  entries-refuse e =
+      let w = scan-refuse _ _ r e in
+      let v = scan-refuse _ _ r (w .refuses) in
+      let f = require-refuse _ _ r (v .refuses) in
+      rw (← f .1) (invalid-entry {m = w .at} {k = v .at} refl (omega arith) (omega (arith, w .inside)) (omega (arith, v .inside)) (λ s.
+      lacks (f .0) (entry-fits P (dataOf d) (w .at) (v .at) .1 s)))
+
+  partitions-refuse : partitionsChecked P d ≡ Refuse r → DataGiven
+  unfolding refusalReport
+  partitions-refuse e =
+      let w = scan-refuse _ _ r e in
+      let f = require-refuse _ _ r (w .refuses) in
+      rw (← f .1) (invalid-partition refl (omega (arith, w .inside)) (λ s. lacks (f .0) (supplied-right P (dataOf d) (w .at) .1 s)))
+
+  pub data-refuses : dataCheck P d ≡ Refuse r → DataGiven
+  unfolding dataCheck refusalReport
+  data-refuses h =
+      then-cases _ _ r h
+      (λ e. let f = require-refuse _ _ r e in rw (← f .1) (invalid-data refl refl (λ w. lacks (f .0) (frame-fits P d .1 w))))
+      (λ framed h.
+      let entries = entries-refuse in
+      let partitions = partitions-refuse in
+      then-cases _ _ r h (search) (λ passed. search))

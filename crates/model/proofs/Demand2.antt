@@ -1,29 +1,28 @@
 -- T2: the verdict accepts exactly the plans that read by the layout, whose loops are parallelizable, whose steps are licensed and whose needs
--- are concluded. T2b: where it refuses, or evaluating does, the table's "given when" holds at the place. Assumes nothing.
+-- are concluded; and the whole promise of checking. Assumes nothing.
 use Prim.Native.Nat.{ℕ, _/_}
-use mathlib.Core.Path.{_≡_, refl}
+use mathlib.Core.Path.{_≡_, sym, ap, _∙_}
 use mathlib.Core.Logic.{_↔_}
 use lib.ListN.{length}
 use Rattle.model.specs.Bytes.{Bytes, body}
 use Rattle.model.specs.Layout.{planOf, statementCount}
 use Rattle.model.specs.Verdict.{recordsCheck, planCheck, verdict}
-use Rattle.model.specs.Evaluation.{evaluationCheck}
 use Rattle.model.specs.LoopRelations.{SymbolsBefore}
 use Rattle.model.specs.PlainPlan.{WellFormed, Parallelizable, Licensed, Concluded}
-use Rattle.model.specs.GivenWhen.{GivenWhen}
+use Rattle.model.specs.Answers.{report}
 use Rattle.model.specs.Promises.{Accepts, CheckPromise}
 use Rattle.model.specs.declared.Refusal.{Refusal}
 use Rattle.model.specs.declared.Outcome.the-variants.{Pass, Refuse}
 use Rattle.model.specs.declared.Answer.{Answer}
-use Rattle.model.specs.declared.Answer.the-variants.{Accepted}
-use Rattle.model.proofs.Tests.{lacks}
-use Rattle.model.proofs.Outcomes.{scan-agrees, then-pass, passes-then, then-cases, require-refuse, conclude-accepted, conclude-pass}
+use Rattle.model.specs.declared.Answer.the-variants.{Accepted, Refused}
+use Rattle.model.proofs.Outcomes.{scan-agrees, then-pass, passes-then, conclude-accepted, conclude-refused, conclude-pass}
 use Rattle.model.proofs.Accepted.{verdict-accepted}
-use Rattle.model.proofs.LayoutAgrees.{LayoutRead, layout-read, layout-refuses, beyond, region-formed, map-formed, supplied-formed}
-use Rattle.model.proofs.RecordsAgree.{NodesRead, nodes-plainly, passes-nodes, steps-plainly, passes-steps, regions-refuse, maps-refuse, supplied-refuse, nodes-refuse, steps-refuse}
-use Rattle.model.proofs.DataAgrees.{data-refuses}
+use Rattle.model.proofs.LayoutAgrees.{LayoutRead, layout-read, region-formed, map-formed, supplied-formed}
+use Rattle.model.proofs.RecordsAgree.{NodesRead, nodes-plainly, passes-nodes, steps-plainly, passes-steps}
 use Rattle.model.proofs.SymbolsAgree.{symbols-before}
-use Rattle.model.proofs.Demand2Loops.{statements-pass, loops-pass, assignment-count-passes, assignments-pass, needs-pass, statements-refuse, loops-refuse, assignment-count-refuses, assignments-refuse, needs-refuse}
+use Rattle.model.proofs.Demand2Loops.{statements-pass, loops-pass, assignment-count-passes, assignments-pass, needs-pass}
+use Rattle.model.proofs.GivenWhen.{plan-refuses}
+use Rattle.model.proofs.FirstMet.{plan-first}
 
 module _ (p : Bytes) where
   abbrev Plainly : Type 0
@@ -106,34 +105,15 @@ module _ (p : Bytes) where
       let C = verdict-accepted p a b c h .1 in
       (rw (C .symbols-counted) (symbols-before (planOf p) (statementCount (planOf p))), C .nodes-counted, C .steps-counted)
 
-  -- checking keeps its whole promise where its answer is the verdict
-  pub check-promise : (r : Answer) → r ≡ verdict p → CheckPromise p r
-  check-promise r e = rw e (record { answer = refl; exactly = demand-2; counts = counts })
-
--- T2b
-module _ (p d : Bytes) (lent : ℕ) (r : Refusal) where
-  pub plan-refuses : planCheck p ≡ Refuse r → GivenWhen p d lent r
-  unfolding planCheck recordsCheck
-  plan-refuses h =
-      then-cases _ _ r h (layout-refuses p d lent r) λ layout h.
-      then-cases _ _ r h (regions-refuse p d lent r) λ regions h.
-      then-cases _ _ r h (maps-refuse p d lent r) λ maps h.
-      then-cases _ _ r h (supplied-refuse p d lent r) λ supplied h.
-      then-cases _ _ r h (statements-refuse p d lent r) λ statements h.
-      let S = statements-pass (planOf p) .0 statements in
-      then-cases _ _ r h (loops-refuse p d lent r S) λ loops h.
-      then-cases _ _ r h (nodes-refuse p d lent r) λ nodes h.
-      let N = nodes-plainly (planOf p) nodes in
-      then-cases _ _ r h (assignment-count-refuses p d lent r) λ count h.
-      then-cases _ _ r h (assignments-refuse p d lent r S) λ assignments h.
-      let A = assignments-pass (planOf p) S N .0 assignments in
-      then-cases _ _ r h (steps-refuse p d lent r) λ steps h.
-      needs-refuse p d lent r S N A (steps-plainly (planOf p) steps .formed) h
-
-  pub evaluation-refuses : evaluationCheck p d lent ≡ Refuse r → GivenWhen p d lent r
-  unfolding evaluationCheck
-  evaluation-refuses h =
-      then-cases _ _ r h plan-refuses λ plan h.
-      then-cases _ _ r h (data-refuses p d lent r) λ fits h.
-      let f = require-refuse _ _ r h in
-      rw (← f .1) (refl, beyond (lacks (f .0)))
+-- checking keeps its whole promise where its answer is the verdict
+pub check-promise : (p : Bytes) (r : Answer) → r ≡ verdict p → CheckPromise p r
+unfolding verdict report
+check-promise p r e =
+    let refuses : (q : Refusal) → r ≡ Refused q → planCheck p ≡ Refuse q = λ q h. conclude-refused _ _ _ _ q (sym e ∙ h) in
+    record {
+      answer = ap report e;
+      exactly = rw e (demand-2 p);
+      counts = λ a b c h. counts p a b c (sym e ∙ h);
+      refused = λ q h. rw h (plan-refuses p q (refuses q h));
+      first = λ q h. rw h (plan-first p q (refuses q h));
+    }

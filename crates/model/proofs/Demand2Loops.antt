@@ -15,19 +15,21 @@ use Rattle.model.specs.Nodes.{nodeRegion}
 use Rattle.model.specs.Needs.{hasSymbol, symbol, symbolNode, symbolRegion, assignmentCountCheck, assignmentCheck, needCheck}
 use Rattle.model.specs.LoopRelations.{HasSymbol, SymbolsBefore, SymbolRegion, NodeRegion}
 use Rattle.model.specs.PlainPlan.{StatementFormed, StatementAgrees, ParallelizableLoop, NodeFormed, supplied-formed, equal-formed, operands-formed, map-formed, SameNode, StepFormed, NeedsConcluded}
-use Rattle.model.specs.GivenWhen.{GivenWhen, RecordInvalid, RegionsDisagree}
+use Rattle.model.specs.Answers.{refusalReport}
+use Rattle.model.specs.GivenWhen.{RecordInvalid, RegionsDisagree, invalid-record, region-mismatch, not-parallelizable, assignment-count, unmet-need}
 use Rattle.model.specs.declared.Refusal.{Refusal}
 use Rattle.model.specs.declared.Outcome.the-variants.{Pass, Refuse}
 use Rattle.model.proofs.Tests.{pair, one, lacks, split, implied, implies, same, same!, less, less! }
 use Rattle.model.proofs.Outcomes.{scan-agrees, then-pass, passes-then, then-cases, require-pass, required, require-refuse, scan-pass, passes-scan, scan-refuse}
 use Rattle.model.proofs.NodesAgree.{region-is, node-region, operand-earlier}
 use Rattle.model.proofs.StepsAgree.{concludes-subset, concludes-disjoint, concludes-complete}
+use Rattle.model.proofs.LayoutAgrees.{PlanGiven}
 use Rattle.model.proofs.RecordsAgree.{NodesRead}
 use Rattle.model.proofs.StatementKinds.{opens-is}
 use Rattle.model.proofs.VariablesAgree.{FormedBefore}
-use Rattle.model.proofs.StatementsAgree.{formed-told, formed-next, statement-formed, statement-agrees}
+use Rattle.model.proofs.StatementsAgree.{formed-computed, formed-next, statement-formed, statement-agrees}
 use Rattle.model.proofs.ParallelAgree.{loop-parallelizable}
-use Rattle.model.proofs.SymbolsAgree.{has-symbol, symbol-is, symbols-before, symbol-told, symbol-region, NodesListed}
+use Rattle.model.proofs.SymbolsAgree.{has-symbol, symbol-is, symbols-before, symbol-computed, symbol-region, NodesListed}
 use Rattle.model.proofs.NeedsAgree.{ConclusionsAgree, needsMet, needs-concluded}
 
 -- one test, and two, that must pass
@@ -41,12 +43,12 @@ passes-two a b q r = (
 )
 
 -- an implication that fails
-not-implied : {a b : Bool} → Is (non (non a or b)) → Is a × (Is b → ⊥)
+pub not-implied : {a b : Bool} → Is (non (non a or b)) → Is a × (Is b → ⊥)
 not-implied {a} h =
     elim (split a) [ inl y ↦ (y, λ k. lacks h (one (inr k))) | inr n ↦ absurd (lacks h (one (inl n))) ]
 
 module _ (P : Plan) where
-  statement-passes : (s : ℕ) → (statementCheck P s ≡ Pass) ↔ (Is (statementFormed P s) × Is (statementAgrees P s))
+  pub statement-passes : (s : ℕ) → (statementCheck P s ≡ Pass) ↔ (Is (statementFormed P s) × Is (statementAgrees P s))
   unfolding statementCheck
   statement-passes s = passes-two _ _ _ _
 
@@ -70,7 +72,7 @@ module _ (P : Plan) where
   StatementsRead = (s : ℕ) → s < statementCount P → StatementFormed P s × StatementAgrees P s
 
   pub all-formed : StatementsRead → FormedBefore P (statementCount P)
-  all-formed R s lt = formed-told P (R s lt .0)
+  all-formed R s lt = formed-computed P (R s lt .0)
 
   pub statements-pass : (scan (statementCheck P) 0 (statementCount P) ≡ Pass) ↔ StatementsRead
   statements-pass = (plainly, tested)
@@ -87,7 +89,7 @@ module _ (P : Plan) where
           passes-scan _ _ (λ s lt.
           statement-passes s .1 (all-formed R s lt, statement-agrees P s (λ t l. all-formed R t (omega arith)) .1 (R s lt .1)))
 
-  -- "its loops are parallelizable"
+  -- demand 2: its loops are parallelizable
   abbrev pub LoopsParallelizable : Type 0
   LoopsParallelizable = (f : ℕ) → f < statementCount P → statementKind P f ≡ 0 → ParallelizableLoop P f
 
@@ -102,32 +104,34 @@ module _ (P : Plan) where
   pub assignment-count-passes : (assignmentCountCheck P ≡ Pass) ↔ SymbolsBefore P (statementCount P) (assignmentCount P)
   unfolding assignmentCountCheck
   assignment-count-passes =
-      (λ h. symbol-is P .0 (sym (same (require-pass _ _ h))), λ w. required _ _ (same! (sym (symbol-told P w))))
+      (λ h. symbol-is P .0 (sym (same (require-pass _ _ h))), λ w. required _ _ (same! (sym (symbol-computed P w))))
 
-  abbrev Assigned : ℕ → ℕ → Type 0
+  abbrev pub Assigned : ℕ → ℕ → Type 0
   Assigned s j = (j < nodeCount P) × ((r : ℕ) → SymbolRegion P s r → NodeRegion P j r)
 
   abbrev pub AssignmentsRead : Type 0
   AssignmentsRead =
       (s k : ℕ) → s < statementCount P → HasSymbol P s → SymbolsBefore P s k → Assigned s (assigned P k)
 
+  upto : StatementsRead → {s : ℕ} → s < statementCount P → FormedBefore P (suc s)
+  upto R l t m = all-formed R t (omega arith)
+
+  -- a record of section 6 that passed
+  pub assignment-read :
+      StatementsRead → NodesRead P → (s : ℕ) → s < statementCount P → HasSymbol P s → assignmentCheck P s ≡ Pass → Assigned s (symbolNode P s)
+  assignment-read R N s lt y h =
+      let t = assignment-passes s .0 h in
+      let l = less (implied (t .0) (has-symbol P s .1 y)) in (
+        l,
+        λ r q. node-region P (symbolNode P s) r (λ i le. N .each i (omega arith) .0) .0
+            (same (implied (t .1) (has-symbol P s .1 y)) ∙ symbol-region P (upto R lt) y .1 q),
+      )
+
   pub assignments-pass : StatementsRead → NodesRead P → (scan (assignmentCheck P) 0 (statementCount P) ≡ Pass) ↔ AssignmentsRead
   assignments-pass R N = (plainly, tested)
     where
-      upto : {s : ℕ} → s < statementCount P → FormedBefore P (suc s)
-      upto l t m = all-formed R t (omega arith)
-
       plainly : scan (assignmentCheck P) 0 (statementCount P) ≡ Pass → AssignmentsRead
-      plainly h s k lt y w = rw (symbol-told P w) at (own s lt y)
-        where
-          own : (s : ℕ) → s < statementCount P → HasSymbol P s → Assigned s (symbolNode P s)
-          own s lt y =
-              let t = assignment-passes s .0 (scan-pass _ _ h s lt) in
-              let l = less (implied (t .0) (has-symbol P s .1 y)) in (
-                l,
-                λ r q. node-region P (symbolNode P s) r (λ i le. N .each i (omega arith) .0) .0
-                    (same (implied (t .1) (has-symbol P s .1 y)) ∙ symbol-region P (upto lt) y .1 q),
-              )
+      plainly h s k lt y w = rw (symbol-computed P w) at (assignment-read R N s lt y (scan-pass _ _ h s lt))
 
       tested : AssignmentsRead → scan (assignmentCheck P) 0 (statementCount P) ≡ Pass
       tested A =
@@ -135,7 +139,7 @@ module _ (P : Plan) where
             implies (λ y. less! (A s (symbol P s) lt (has-symbol P s .0 y) (symbols-before P s) .0)),
             implies (λ y.
                 let z = has-symbol P s .0 y in
-                let q = symbol-region P (upto lt) z .0 refl in
+                let q = symbol-region P (upto R lt) z .0 refl in
                 same! (region-is P (A s (symbol P s) lt z (symbols-before P s) .1 (symbolRegion P s) q))),
           ))
 
@@ -173,7 +177,7 @@ module _ (P : Plan) where
       }
 
   -- a need that is not met is a symbol's
-  need-symbol : (s : ℕ) → Is (non (needsMet P s)) → HasSymbol P s
+  pub need-symbol : (s : ℕ) → Is (non (needsMet P s)) → HasSymbol P s
   unfolding hasSymbol
   need-symbol s h =
       elim (split (hasSymbol P s)) [
@@ -184,7 +188,7 @@ module _ (P : Plan) where
             absurd (lacks h (pair no-loop no-access))
       ]
 
-  -- "each need inferred from the loops is concluded by a step"
+  -- demand 2: each need inferred from the loops is concluded by a step
   abbrev pub NeedsMet : Type 0
   NeedsMet = (s : ℕ) → s < statementCount P → NeedsConcluded P s
 
@@ -197,41 +201,41 @@ module _ (P : Plan) where
         scan-agrees (needCheck P) (NeedsConcluded P) (statementCount P) (λ s lt. Iff·trans (need-passes s) (need-agrees s lt))
 
 -- where a check refuses
-module _ (p d : Bytes) (lent : ℕ) (r : Refusal) where
-  pub statements-refuse : scan (statementCheck (planOf p)) 0 (statementCount (planOf p)) ≡ Refuse r → GivenWhen p d lent r
-  unfolding statementCheck
+module _ (p : Bytes) (r : Refusal) where
+  pub statements-refuse : scan (statementCheck (planOf p)) 0 (statementCount (planOf p)) ≡ Refuse r → PlanGiven p r
+  unfolding statementCheck refusalReport
   statements-refuse h =
       let w = scan-refuse _ _ r h in
       let lt : w .at < statementCount (planOf p) = omega (arith, w .inside) in
       let F : FormedBefore (planOf p) (w .at) = λ t l. statement-passes (planOf p) t .0 (w .before t (omega arith) l) .0 in
       then-cases _ _ r (w .refuses)
       (λ e. let f = require-refuse _ _ r e in
-      rw (← f .1) (RecordInvalid.in-statements refl lt (λ q. lacks (f .0) (formed-told (planOf p) q))))
+      rw (← f .1) (invalid-record refl (RecordInvalid.in-statements refl lt (λ q. lacks (f .0) (formed-computed (planOf p) q)))))
       (λ formed e. let f = require-refuse _ _ r e in
-      rw (← f .1) (RegionsDisagree.in-statements refl lt (λ q.
-      lacks (f .0) (statement-agrees (planOf p) (w .at) (formed-next (planOf p) F (require-pass _ _ formed)) .1 q))))
+      rw (← f .1) (region-mismatch refl (RegionsDisagree.in-statements refl lt (λ q.
+      lacks (f .0) (statement-agrees (planOf p) (w .at) (formed-next (planOf p) F (require-pass _ _ formed)) .1 q)))))
 
   pub loops-refuse :
-      StatementsRead (planOf p) → scan (loopCheck (planOf p)) 0 (statementCount (planOf p)) ≡ Refuse r → GivenWhen p d lent r
-  unfolding loopCheck
+      StatementsRead (planOf p) → scan (loopCheck (planOf p)) 0 (statementCount (planOf p)) ≡ Refuse r → PlanGiven p r
+  unfolding loopCheck refusalReport
   loops-refuse R h =
       let w = scan-refuse _ _ r h in
       let lt : w .at < statementCount (planOf p) = omega (arith, w .inside) in
       let f = require-refuse _ _ r (w .refuses) in
       let u = not-implied (f .0) in
       let agrees = loop-parallelizable (planOf p) (all-formed (planOf p) R) (w .at) in
-      rw (← f .1) (lt, opens-is (planOf p) (w .at) .0 (u .0), λ q. u .1 (agrees .1 q))
+      rw (← f .1) (not-parallelizable refl lt (opens-is (planOf p) (w .at) .0 (u .0)) (λ q. u .1 (agrees .1 q)))
 
-  pub assignment-count-refuses : assignmentCountCheck (planOf p) ≡ Refuse r → GivenWhen p d lent r
-  unfolding assignmentCountCheck
+  pub assignment-count-refuses : assignmentCountCheck (planOf p) ≡ Refuse r → PlanGiven p r
+  unfolding assignmentCountCheck refusalReport
   assignment-count-refuses h =
       let f = require-refuse _ _ r h in
-      rw (← f .1) (symbols-before (planOf p) (statementCount (planOf p)), λ e. lacks (f .0) (same! e))
+      rw (← f .1) (assignment-count refl (symbols-before (planOf p) (statementCount (planOf p))) (λ e. lacks (f .0) (same! e)))
 
   pub assignments-refuse :
       StatementsRead (planOf p) → scan (assignmentCheck (planOf p)) 0 (statementCount (planOf p)) ≡ Refuse r →
-      GivenWhen p d lent r
-  unfolding assignmentCheck
+      PlanGiven p r
+  unfolding assignmentCheck refusalReport
   assignments-refuse R h =
       let w = scan-refuse _ _ r h in
       let lt : w .at < statementCount (planOf p) = omega (arith, w .inside) in
@@ -241,28 +245,22 @@ module _ (p d : Bytes) (lent : ℕ) (r : Refusal) where
       (λ e.
       let f = require-refuse _ _ r e in
       let u = not-implied (f .0) in
-      rw (← f .1) (RecordInvalid.in-assignments refl lt (has-symbol (planOf p) (w .at) .0 (u .0)) k (λ l. u .1 (less! l))))
+      rw (← f .1) (invalid-record refl (RecordInvalid.in-assignments refl lt (has-symbol (planOf p) (w .at) .0 (u .0)) k (λ l. u .1 (less! l)))))
       (λ listed e.
       let f = require-refuse _ _ r e in
       let u = not-implied (f .0) in
       let y = has-symbol (planOf p) (w .at) .0 (u .0) in
-      rw (← f .1) (RegionsDisagree.in-assignments refl lt y k (λ q.
-      u .1 (same! (region-is (planOf p) (q (symbolRegion (planOf p) (w .at)) (symbol-region (planOf p) F y .0 refl)))))))
+      rw (← f .1) (region-mismatch refl (RegionsDisagree.in-assignments refl lt y k (λ q.
+      u .1 (same! (region-is (planOf p) (q (symbolRegion (planOf p) (w .at)) (symbol-region (planOf p) F y .0 refl))))))))
 
   pub needs-refuse :
       StatementsRead (planOf p) → NodesRead (planOf p) → AssignmentsRead (planOf p) →
       ((t : ℕ) → t < stepCount (planOf p) → StepFormed (planOf p) t) →
-      scan (needCheck (planOf p)) 0 (statementCount (planOf p)) ≡ Refuse r → GivenWhen p d lent r
-  unfolding needCheck
+      scan (needCheck (planOf p)) 0 (statementCount (planOf p)) ≡ Refuse r → PlanGiven p r
+  unfolding needCheck refusalReport
   needs-refuse R N A T h =
       let w = scan-refuse _ _ r h in
       let lt : w .at < statementCount (planOf p) = omega (arith, w .inside) in
       let f = require-refuse _ _ r (w .refuses) in
-      rw (← f .1) (
-        w .at,
-        lt,
-        need-symbol (planOf p) (w .at) (f .0),
-        symbols-before (planOf p) (w .at),
-        λ q.
-            lacks (f .0) (need-agrees (planOf p) R N A T (w .at) lt .1 q),
-      )
+      rw (← f .1) (unmet-need refl lt (need-symbol (planOf p) (w .at) (f .0)) (symbols-before (planOf p) (w .at)) (λ q.
+      lacks (f .0) (need-agrees (planOf p) R N A T (w .at) lt .1 q)))

@@ -1,6 +1,6 @@
 -- Demand 3 (T5): an accepted plan over data that fit fills the words so that every access of every task is safe. The needs of loops and
 -- accesses are concluded by steps, which are true, and the words hold the nodes' sets. And T6: where all checks pass, acceptance is given.
-use Prim.Native.Nat.{ℕ, _+_, _*_, _≤_, _<_}
+use Prim.Native.Nat.{ℕ, suc, _+_, _*_, _≤_, _<_}
 use mathlib.Core.Path.{_≡_, sym, _∙_}
 use mathlib.Core.Logic.{inl, inr}
 use mathlib.Core.List.{List}
@@ -8,17 +8,18 @@ use native.Mathlib.Omega.{arith}
 use lib.ListN.{length}
 use Rattle.model.specs.Tests.{Is}
 use Rattle.model.specs.Bytes.{Bytes}
-use Rattle.model.specs.Layout.{Plan, planOf, nodeCount, statementCount, statementA}
+use Rattle.model.specs.Layout.{Plan, planOf, nodeCount, statementCount, statementKind, statementA}
 use Rattle.model.specs.Statements.{opens, accesses}
 use Rattle.model.specs.Nodes.{nodeRegion}
 use Rattle.model.specs.Parallel.{reducesThroughPointer}
-use Rattle.model.specs.Needs.{hasSymbol, symbolNode, symbolRegion, operandBound, loopNeedsMet, accessNeedMet}
+use Rattle.model.specs.Needs.{hasSymbol, symbolNode, symbolRegion, bound, operandBound, loopNeedsMet, accessNeedMet}
+use Rattle.model.specs.LoopRelations.{HasSymbol}
 use Rattle.model.specs.Verdict.{planCheck, accepted, verdict}
 use Rattle.model.specs.DataSets.{DataSet, dataOf, pieces, dataCheck}
 use Rattle.model.specs.Membership.{member}
 use Rattle.model.specs.Words.{holds}
 use Rattle.model.specs.Evaluation.{wordsNeeded, evaluationCheck, evaluation, filledWords}
-use Rattle.model.specs.Legal.{subregion, LegalLoop, Legal}
+use Rattle.model.specs.Legal.{InSubregion, LegalLoop, Legal}
 use Rattle.model.specs.AcceptedPlans.{Facts}
 use Rattle.model.specs.declared.Answer.the-variants.{Accepted}
 use Rattle.model.specs.declared.Outcome.the-variants.{Pass}
@@ -29,8 +30,13 @@ use Rattle.model.proofs.Fitting.{Fit, fit}
 use Rattle.model.proofs.NodeSets.{region-small, node-within}
 use Rattle.model.proofs.Steps.{SubsetHolds, DisjointHolds, CompleteHolds, subset-of, disjoint-of, complete-of, steps-true}
 use Rattle.model.proofs.FinalWords.{filled-holds}
-use Rattle.model.proofs.Bounds.{operand-earlier, bounded}
-use Rattle.model.proofs.StatementKinds.{access-opens-none}
+use Rattle.model.proofs.Bounds.{bounded}
+use Rattle.model.proofs.StatementKinds.{opens-is, accesses-is}
+use Rattle.model.proofs.LoopsAgree.{in-loop, resolves-loop}
+use Rattle.model.proofs.VariablesAgree.{FormedBefore, access-computed}
+use Rattle.model.proofs.ParallelAgree.{access-resolves, reduces-through-pointer}
+use Rattle.model.proofs.SymbolsAgree.{has-symbol}
+use Rattle.model.proofs.SubregionsAgree.{subregion, subregion-computed, subregion-is}
 
 -- the words hold the nodes' sets
 abbrev pub Filled : Plan → DataSet → List ℕ → Type 0
@@ -60,53 +66,69 @@ module _ (P : Plan) (D : DataSet) (F : Facts P) (fits : Fit P D) where
   unfolding accessNeedMet
   access-bound-listed s lt h = less (both (F .access-met s lt h) .0)
 
+  -- the statements up to one of the plan's are formed
+  formed-through : {s : ℕ} → s < statementCount P → FormedBefore P (suc s)
+  formed-through lt t l = F .statement-formed t (omega arith)
+
   module _ (words : List ℕ) (filled : Filled P D words) where
     -- a symbol's subregion is its node's set
     in-subregion :
-        (s i e : ℕ) → s < statementCount P → Is (hasSymbol P s) → Is (member P D (symbolNode P s) i e) → Is (subregion P D words s i e)
+        (s i e : ℕ) → s < statementCount P → HasSymbol P s → Is (member P D (symbolNode P s) i e) → InSubregion P D words s i e
     unfolding subregion
     in-subregion s i e lt h m =
-        let n = F .node-listed s lt h in
+        let y = has-symbol P s .1 h in
+        let n = F .node-listed s lt y in
         let (piece, inside) = node-within P D F fits (symbolNode P s) n i e m in
         let small = region-small P D F fits (symbolNode P s) n in
-        pair (less! (rw (F .node-region s lt h) at inside)) (filled (symbolNode P s) i e n piece (omega arith) ∙ m)
+        subregion-is P D words (formed-through lt) h .0
+        (pair (less! (rw (F .node-region s lt y) at inside)) (filled (symbolNode P s) i e n piece (omega arith) ∙ m))
 
     of-subregion :
-        (s i e : ℕ) → s < statementCount P → Is (hasSymbol P s) → i < pieces D → Is (subregion P D words s i e) →
+        (s i e : ℕ) → s < statementCount P → HasSymbol P s → i < pieces D → InSubregion P D words s i e →
         Is (member P D (symbolNode P s) i e)
     unfolding subregion
-    of-subregion s i e lt h piece m =
-        let n = F .node-listed s lt h in
-        let inside = less (both m .0) in
-        let small = rw (F .node-region s lt h) at (region-small P D F fits (symbolNode P s) n) in
-        sym (filled (symbolNode P s) i e n piece (omega arith)) ∙ both m .1
+    of-subregion s i e lt h piece w =
+        let y = has-symbol P s .1 h in
+        let n = F .node-listed s lt y in
+        let (below, held) = both (subregion-computed P D words w) in
+        let inside = less below in
+        let small = rw (F .node-region s lt y) at (region-small P D F fits (symbolNode P s) n) in
+        sym (filled (symbolNode P s) i e n piece (omega arith)) ∙ held
 
-    legal-loop : (f : ℕ) → f < statementCount P → Is (opens P f) → LegalLoop P D words f
+    -- the region of a FOR's node is the loop's
+    loop-region : (f : ℕ) → f < statementCount P → Is (opens P f) → nodeRegion P (symbolNode P f) ≡ statementA P f
     unfolding hasSymbol symbolRegion
+    loop-region f lt o = F .node-region f lt (one (inl o)) ∙ pick-true _ _ _ o
+
+    legal-loop : (f : ℕ) → f < statementCount P → statementKind P f ≡ 0 → LegalLoop P D words f
     legal-loop f lt h =
-        let symbol : Is (hasSymbol P f) = one (inl h) in
-        let region : nodeRegion P (symbolNode P f) ≡ statementA P f = F .node-region f lt symbol ∙ pick-true _ _ _ h in
+        let o = opens-is P f .1 h in
+        let some = fits .some-piece in
         record {
           covered = λ k inside.
-              let (i, piece, m) = loop-complete f lt h k (rw region inside) in
-              (i, piece, in-subregion f i k lt symbol m);
-          once = λ reduces k i j li lj a b.
-              loop-disjoint f lt h reduces i j k (of-subregion f i k lt symbol li a) (of-subregion f j k lt symbol lj b);
-          contained = λ s i k e ls here li held touches.
-              let (access, takes) = touches in
-              let (lower, one-loop) = operand-earlier P F s ls (access-opens-none P s access) in
-              let start = of-subregion f i k lt symbol li held in
-              in-subregion s i e ls (one (inr access))
-              (access-subset s ls access .subset i e
-              (bounded P D F fits i takes (omega arith) (rw (one-loop, here) start) (access-bound-listed s ls access)));
+              let (i, piece, m) = loop-complete f lt o k (rw (loop-region f lt o) (omega arith)) in
+              (i, omega (arith, fits .few-pieces), in-subregion f i k lt (inl h) m);
+          once = λ k i j reduces li lj a b.
+              loop-disjoint f lt o (reduces-through-pointer P (λ s l. F .statement-formed s l) f .1 reduces) i j k
+              (of-subregion f i k lt (inl h) (omega arith) a) (of-subregion f j k lt (inl h) (omega arith) b);
+          contained = λ s i k e ls here li holds touches.
+              let (d, through, value) = touches in
+              let ins : s < statementCount P = omega arith in
+              let (access, _, from) = access-computed P through in
+              let w = access-resolves P through .1 in
+              let start = of-subregion f i k lt (inl h) (omega arith) holds in
+              let in-bound : Is (member P D (bound P d) i e) =
+              bounded P D F i value (omega (arith, w .earlier)) (rw (resolves-loop P w ∙ in-loop P .1 here .2) start)
+              (rw from at (access-bound-listed s ins access)) in
+              in-subregion s i e ins (inr (accesses-is P s .0 access)) (access-subset s ins access .subset i e (rw from in-bound));
         }
 
 -- over words that hold the nodes' sets
 pub legal :
     (p d : Bytes) (words : List ℕ) → planCheck p ≡ Pass → dataCheck (planOf p) d ≡ Pass → Filled (planOf p) (dataOf d) words →
     Legal p d words
-legal p d words plan-passes data-passes filled =
-    legal-loop (planOf p) (dataOf d) (plan-accepted p plan-passes .records) (fit (planOf p) d data-passes) words filled
+legal p d words plan-passes data-passes filled f lt h =
+    legal-loop (planOf p) (dataOf d) (plan-accepted p plan-passes .records) (fit (planOf p) d data-passes) words filled f (omega arith) h
 
 -- what an acceptance by evaluation says
 pub record Evaluated (p d : Bytes) (lent symbols nodes steps : ℕ) : Type 0 where
@@ -121,7 +143,8 @@ evaluated p d lent a b c h =
     let (passes, counts) = conclude-accepted _ _ a b c h in
     let (plan-passes, passes) = then-pass _ _ passes in
     let (data-passes, enough) = then-pass _ _ passes in
-    record { plan-passes = plan-passes; data-passes = data-passes; enough = most (require-pass _ _ enough); counts = counts }
+    let l = most (require-pass _ _ enough) in
+    record { plan-passes = plan-passes; data-passes = data-passes; enough = omega arith; counts = counts }
 
 -- T6: acceptance is given to each accepted plan, over each data set that fits it, where enough words are lent
 pub acceptance-given :
@@ -130,7 +153,7 @@ pub acceptance-given :
 unfolding verdict evaluation evaluationCheck
 acceptance-given p d lent a b c h data-passes enough =
     let (plan-passes, counts) = conclude-accepted _ _ a b c h in
-    conclude-pass _ _ (passes-then plan-passes (passes-then data-passes (required _ _ (most! enough)))) ∙ counts
+    conclude-pass _ _ (passes-then plan-passes (passes-then data-passes (required _ _ (most! (omega arith))))) ∙ counts
 
 -- T5: every accepted plan serves its loops, over every data set that fits it and whatever the words held
 pub demand-3 :

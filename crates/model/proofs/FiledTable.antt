@@ -1,24 +1,19 @@
--- T7: the paper's table about the definitions, all ten rows in one theorem, by computation.
+-- T7: the paper's table about the definitions, all ten rows in one theorem, and beside it the other filed examples. By computation.
+-- Assumes nothing.
 use Prim.Native.Nat.{ℕ, zero, suc}
 use mathlib.Core.Path.{_≡_, refl}
 use mathlib.Core.List.{List, [], _∷_, _++_, map}
 use mathlib.Core.Bool.{Bool, true, false}
-use Rattle.model.specs.Tests.{_and_, _or_, non, _==_, _<?_, _≤?_, any, every, pick, first}
-use Rattle.model.specs.Answers.{Report, report, refusalReport, refusal}
-use Rattle.model.specs.Outcomes.{require, _then_, scan, conclude}
-use Rattle.model.specs.Bytes.{Bytes, boundary, body}
-use Rattle.model.specs.Recursion.{below, levels, course}
-use Rattle.model.specs.Partitions.{union, intersection, difference, image, preimage, contiguous, equalStart}
-use Rattle.model.specs.Layout.{planOf, shapes, shapeOf, sectionCheck, layoutCheck}
-use Rattle.model.specs.Statements.{kindOf, opensLoop, definesVariable, accessOf, isAccess, kind, opens, defines, accesses, loopBefore, variables, definition, operandBy, operand, operandDefinition, regionBy, variableRegion, centeredBy, centered, statementFormedBy, statementFormed, statementAgreesBy, statementAgrees, statementCheck}
-use Rattle.model.specs.Parallel.{isRead, isWrite, isReduce, reads, writes, reduces, uncentered, accessOfLoop, sameTarget, conflicts, parallelizable, loopCheck, reducesThroughPointer}
-use Rattle.model.specs.Nodes.{nodeFormedRows, nodeFormed, nodeRegionRows, nodeRegionStep, nodeRegion, nodeAgreesRows, nodeAgrees, sameNode, duplicateNode, nodeCheck}
-use Rattle.model.specs.Lemmas.{lemmas, lemmaRow, inUse, isSubset, isDisjoint, isComplete, concludesSubset, concludesDisjoint, concludesComplete, operandOf, licences, licence, stepFormed, stepLicensed, stepCheck}
-use Rattle.model.specs.Needs.{hasSymbol, symbol, symbolRegion, assignmentCountCheck, assignmentCheck, imageNode, boundBy, bound, loopNeedsMet, accessNeedMet, needCheck}
-use Rattle.model.specs.Declarations.{regionCheck, mapCheck, suppliedCheck}
-use Rattle.model.specs.Verdict.{recordsCheck, planCheck, verdict}
-use Rattle.model.specs.DataSets.{dataOf, pieces, size, entryStart, entry, low, past, mapsTo, pieceBytes, memberStart, suppliedBit, supplied}
-use Rattle.model.specs.Membership.{equal, operators, nodeSets, member}
+use Rattle.model.specs.Answers.{Report, report, refusal}
+use Rattle.model.specs.Bytes.{Bytes}
+use Rattle.model.specs.Partitions.{contiguous, equalStart}
+use Rattle.model.specs.Layout.{planOf}
+use Rattle.model.specs.Verdict.{verdict}
+use Rattle.model.specs.DataSets.{dataOf, pieces, size, dataCheck}
+use Rattle.model.specs.Membership.{member}
+use Rattle.model.specs.Evaluation.{evaluation}
+use Rattle.model.specs.declared.Outcome.the-variants.{Pass}
+use Rattle.model.proofs.Computing.{definitions}
 use Rattle.model.proofs.FiledPlans.{planA, planA-stepless, planA-written, planB, planB-partial, dataD}
 
 -- a row's input: a plan to check; a node of a plan over a data set, with its region; equal of n elements over N pieces
@@ -81,16 +76,20 @@ outputs =
     ∷ []
 
 pub filed-table : map gives inputs ≡ outputs
-unfolding
-    report refusalReport verdict planCheck layoutCheck sectionCheck shapeOf shapes boundary body conclude require _then_ scan
-    recordsCheck regionCheck mapCheck suppliedCheck statementCheck loopCheck nodeCheck assignmentCountCheck assignmentCheck stepCheck needCheck
-    _and_ _or_ non _==_ _<?_ _≤?_ any every pick first below levels course
-    kindOf opensLoop definesVariable accessOf isAccess kind opens defines accesses loopBefore variables definition operandBy operand
-    operandDefinition regionBy variableRegion centeredBy centered statementFormedBy statementFormed statementAgreesBy statementAgrees
-    isRead isWrite isReduce reads writes reduces uncentered accessOfLoop sameTarget conflicts parallelizable reducesThroughPointer
-    nodeFormedRows nodeFormed nodeRegionRows nodeRegionStep nodeRegion nodeAgreesRows nodeAgrees sameNode duplicateNode
-    lemmas lemmaRow inUse isSubset isDisjoint isComplete concludesSubset concludesDisjoint concludesComplete operandOf licences licence
-    stepFormed stepLicensed hasSymbol symbol symbolRegion imageNode boundBy bound loopNeedsMet accessNeedMet
-    union intersection difference image preimage contiguous equalStart
-    size entryStart entry low past mapsTo pieceBytes memberStart suppliedBit supplied equal operators nodeSets member
+unfolding definitions
 filed-table = refl
+
+-- "So 7 over 3 gives 3, 2, 2"
+pub seven-over-three : gives (dividing 7 3) ≡ subregions ((0 ∷ 1 ∷ 2 ∷ []) ∷ (3 ∷ 4 ∷ []) ∷ (5 ∷ 6 ∷ []) ∷ [])
+unfolding definitions
+seven-over-three = refl
+
+-- D fits A and B; evaluating them over D into "nodes × N × 8" words, and into one word less
+abbrev pub evaluated : Bytes → ℕ → Output
+evaluated p lent = answer (report (evaluation p dataD lent))
+
+pub filed-evaluations :
+    (dataCheck (planOf planA) dataD ≡ Pass) × (evaluated planA 32 ≡ accepts 4 2 3) × (evaluated planA 31 ≡ refuses 15 32)
+    × (dataCheck (planOf planB) dataD ≡ Pass) × (evaluated planB 48 ≡ accepts 4 3 4) × (evaluated planB 47 ≡ refuses 15 48)
+unfolding definitions
+filed-evaluations = (refl, refl, refl, refl, refl, refl)

@@ -12,7 +12,7 @@ use Rattle.model.specs.DataSets.{DataSet, pieces}
 use Rattle.model.specs.Membership.{member}
 use Rattle.model.specs.Words.{bit, holds, word, store}
 use Rattle.model.specs.Evaluation.{wordsNeeded, nodeWord, filledWords}
-use Rattle.model.proofs.Words.{store-length, store-inside, store-outside, word-element}
+use Rattle.model.proofs.Words.{store-length, store-inside, store-outside, word-element, holds-at}
 
 -- the eight words of a node's piece stand inside those of all m nodes
 pub piece-inside : (N m j i : ℕ) → j < m → i < N → (j * N + i) * 8 + 8 ≤ m * N * 8
@@ -24,10 +24,10 @@ module _ (P : Plan) (D : DataSet) where
   unfolding nodeWord
   node-word j i w l h =
       let here : ((j * pieces D + i) * 8 + w) / 8 ≡ j * pieces D + i = omega arith in
-      let node : ((j * pieces D + i) * 8 + w) / 8 / pieces D ≡ j = ap (λ (x : ℕ). x / pieces D) here ∙ digits-div j l in
-      let piece : ((j * pieces D + i) * 8 + w) / 8 % pieces D ≡ i = ap (λ (x : ℕ). x % pieces D) here ∙ digits-mod j l in
-      let eighth : ((j * pieces D + i) * 8 + w) % 8 ≡ w = omega arith in
-      rw (node, piece, eighth)
+      same (ap (λ (x : ℕ). x / pieces D) here ∙ digits-div j l) (ap (λ (x : ℕ). x % pieces D) here ∙ digits-mod j l) (omega arith)
+    where
+      same : {a b c k u v : ℕ} → a ≡ b → c ≡ k → u ≡ v → word (member P D a c) u ≡ word (member P D b k) v
+      same p q r = rw (p, q, r)
 
   module _ (old : List ℕ) where
     pub filled-length : length (filledWords P D old) ≡ length old
@@ -42,11 +42,11 @@ module _ (P : Plan) (D : DataSet) where
     -- the members of node j, piece i, and nothing else, are in its words, once the first m nodes are written
     pub written-holds : (m : ℕ) → m * pieces D * 8 ≤ length old → (j i e : ℕ) → j < m → i < pieces D → e < 512
         → holds (store old 0 (m * pieces D * 8) (nodeWord P D)) ((j * pieces D + i) * 8) e ≡ member P D j i e
-    unfolding holds
     written-holds m fit j i e h l k =
         let inside : (j * pieces D + i) * 8 + e / 64 < m * pieces D * 8 = omega (arith, piece-inside (pieces D) m j i h l) in
         let from : 0 + ((j * pieces D + i) * 8 + e / 64) ≡ (j * pieces D + i) * 8 + e / 64 = omega arith in
-        ap (λ (x : ℕ). bit (getD (store old 0 (m * pieces D * 8) (nodeWord P D)) x 0) (e % 64)) (sym from)
+        holds-at (store old 0 (m * pieces D * 8) (nodeWord P D)) ((j * pieces D + i) * 8) e
+        ∙ ap (λ (x : ℕ). bit (getD (store old 0 (m * pieces D * 8) (nodeWord P D)) x 0) (e % 64)) (sym from)
         ∙ ap (λ (x : ℕ). bit x (e % 64))
         (store-inside old 0 (m * pieces D * 8) (nodeWord P D) ((j * pieces D + i) * 8 + e / 64) (omega arith) inside
         ∙ node-word j i (e / 64) l (omega arith))

@@ -10,11 +10,11 @@ use Rattle.model.specs.Tests.{Is, non, _==_}
 use Rattle.model.specs.Bytes.{Bytes, byte, boundary}
 use Rattle.model.specs.Partitions.{equalStart, PairwiseDisjoint, Covering}
 use Rattle.model.specs.Layout.{Plan, regionCount, mapCount, suppliedCount, source, target, totality, suppliedRegion, suppliedFlags}
-use Rattle.model.specs.DataSets.{DataSet, dataOf, NONE, pieces, size, entryStart, entry, low, past, mapsTo, pieceBytes, memberStart, supplied, entryFits, entriesCheck, declarationsHold, wellFramed, dataCheck}
+use Rattle.model.specs.DataSets.{DataSet, dataOf, NONE, pieces, size, entryStart, entry, low, past, mapsTo, pieceBytes, memberStart, supplied, entryFits, wellFramed, dataCheck}
 use Rattle.model.specs.declared.Outcome.the-variants.{Pass}
 use Rattle.model.proofs.Tests.{both, pair, split, fails, same, less, less!, most, most!, every-at, pick-true, pick-false}
-use Rattle.model.proofs.Outcomes.{then-pass, require-pass, scan-pass}
-use Rattle.model.proofs.DataAgrees.{supplied-right}
+use Rattle.model.proofs.Outcomes.{then-pass, require-pass}
+use Rattle.model.proofs.DataAgrees.{frame-fits, entry-fits, data-fits}
 use Rattle.model.proofs.Partitions.{SingleValued, Total, Within, Starts, equal-starts}
 
 -- the bytes of a data set: the edition, four sections inside, nothing after them
@@ -98,11 +98,10 @@ module _ (P : Plan) (d : Bytes) where
       }
 
   pub fit : dataCheck P d ≡ Pass → Fit P (dataOf d)
-  unfolding dataCheck wellFramed entriesCheck declarationsHold
+  unfolding wellFramed
   fit h =
-      let (frame, h) = then-pass _ _ h in
-      let (maps, partitions) = then-pass _ _ h in
-      let (some, f) = both (require-pass _ _ frame) in
+      let F = data-fits P d .0 h in
+      let (some, f) = both (frame-fits P d .1 (F .frame)) in
       let (edition, f) = both f in
       let (sections, f) = both f in
       let (end, f) = both f in
@@ -113,8 +112,7 @@ module _ (P : Plan) (d : Bytes) where
       let (few-elements, f) = both f in
       let D = dataOf d in
       let fits : (m : ℕ) → m < mapCount P → (k : ℕ) → k < size D (source P m) → Is (entryFits P D m k) =
-      λ m lm k lk. require-pass _ _ (scan-pass _ _ (scan-pass _ _ maps m lm) k lk) in
-      let true-flags : (k : ℕ) → k < suppliedCount P → Is (declarationsHold P D k) = λ k lt. require-pass _ _ (scan-pass _ _ partitions k lt) in
+      λ m lm k lk. entry-fits P D m k .1 (F .entries m k lm lk) in
       record {
         some-piece = most some-piece;
         few-pieces = most few-pieces;
@@ -133,8 +131,8 @@ module _ (P : Plan) (d : Bytes) where
             let some = entry-some P D m k (fits m lt k lk) t in
             (entry P D m k, entry-inside P D m k (fits m lt k lk) some, maps-to P D m k lk some);
         supplied-within = supplied-bits P D;
-        supplied-disjoint = λ k lt. supplied-right P D k .0 (true-flags k lt) .disjoint;
-        supplied-complete = λ k lt. supplied-right P D k .0 (true-flags k lt) .complete;
+        supplied-disjoint = λ k lt. F .supplied k lt .disjoint;
+        supplied-complete = λ k lt. F .supplied k lt .complete;
       }
 
 -- the sums of g before m, and before n

@@ -12,7 +12,8 @@ use Rattle.model.specs.Layout.{Plan, shapes, shapeOf, sectionCheck, layo
 use Rattle.model.specs.PlainPlan.{SectionLength, regions, maps, supplied, statements, nodes, assignments, steps}
 use Rattle.model.proofs.Tests.{lacks, both, pair, same, same!, less, less!, most, most!, Firsts, at-each}
 use Rattle.model.specs.Declarations.{regionCheck, mapCheck, suppliedCheck}
-use Rattle.model.specs.GivenWhen.{GivenWhen}
+use Rattle.model.specs.Answers.{refusalReport}
+use Rattle.model.specs.GivenWhen.{PlanGivenWhen, empty, truncated, unknown-edition, trailing-bytes, invalid-length}
 use Rattle.model.specs.declared.Refusal.{Refusal}
 use Rattle.model.specs.declared.Outcome.the-variants.{Pass, Refuse}
 use Rattle.model.proofs.Accepted.{LaidOut, length-body, section-pass, laid-out, layout-pass}
@@ -125,17 +126,21 @@ layout-read p = (plainly, λ l. layout-pass p (by-section l))
 pub beyond : {a b : ℕ} → (Is (a ≤? b) → ⊥) → b < a
 beyond {a} {b} h = let n : ¬ (a ≤ b) = λ l. h (most! l) in omega arith
 
--- where the layout's checks refuse, the table's "given when" holds
-module _ (p d : Bytes) (lent : ℕ) (r : Refusal) where
-  section-refuses : (n : ℕ) → n < 7 → boundary p n ≤ length p → sectionCheck p n ≡ Refuse r → GivenWhen p d lent r
-  unfolding sectionCheck measured
+-- the table's "given when" of a plan's refusal holds at its place
+abbrev pub PlanGiven : Bytes → Refusal → Type 0
+PlanGiven p r = PlanGivenWhen p (refusalReport r .number) (refusalReport r .place)
+
+-- where the layout's checks refuse
+module _ (p : Bytes) (r : Refusal) where
+  section-refuses : (n : ℕ) → n < 7 → boundary p n ≤ length p → sectionCheck p n ≡ Refuse r → PlanGiven p r
+  unfolding sectionCheck measured refusalReport
   section-refuses n lt start h =
       then-cases _ _ r h
-      (λ e. let f = require-refuse _ _ r e in rw (← f .1) (inr (n, lt, refl, start, ended (λ ends. lacks (f .0) (within ends)))))
+      (λ e. let f = require-refuse _ _ r e in rw (← f .1) (truncated {n = n} refl (omega arith) lt start (ended (λ ends. lacks (f .0) (within ends)))))
       (λ e g.
       let f = require-refuse _ _ r g in
       let ends = most (both (require-pass _ _ e) .1) in
-      rw (← f .1) (n, lt, refl, λ s. lacks (f .0) (section-length n (u16 p (boundary p n)) lt .1 (rw (length-body p n ends) at s))))
+      rw (← f .1) (invalid-length refl refl lt (λ s. lacks (f .0) (section-length n (u16 p (boundary p n)) lt .1 (rw (length-body p n ends) at s)))))
     where
       ended : (boundary p (suc n) ≤ length p → ⊥) → length p < boundary p (suc n)
       ended k = let m : ¬ (boundary p (suc n) ≤ length p) = k in omega arith
@@ -149,22 +154,22 @@ module _ (p d : Bytes) (lent : ℕ) (r : Refusal) where
   starts s zero b lt = s
   starts s (suc n) b lt = section-pass p n (b n (omega arith) (omega arith)) .ends-inside
 
-  pub layout-refuses : layoutCheck p ≡ Refuse r → GivenWhen p d lent r
-  unfolding layoutCheck
+  pub layout-refuses : layoutCheck p ≡ Refuse r → PlanGiven p r
+  unfolding layoutCheck refusalReport
   layout-refuses h =
       then-cases _ _ r h
       (λ e.
       let f = require-refuse _ _ r e in
       let none : length p < 1 = beyond (lacks (f .0)) in
-      rw (← f .1) (inl (refl, omega arith)))
+      rw (← f .1) (empty refl refl (omega arith)))
       (λ some h2. then-cases _ _ r h2
-      (λ e. let f = require-refuse _ _ r e in rw (← f .1) (λ q. lacks (f .0) (same! q)))
+      (λ e. let f = require-refuse _ _ r e in rw (← f .1) (unknown-edition refl refl (λ q. lacks (f .0) (same! q))))
       (λ edition h3. then-cases _ _ r h3
       (λ e.
       let w = scan-refuse (sectionCheck p) 7 r e in
       let lt : w .at < 7 = omega (arith, w .inside) in
       section-refuses (w .at) lt (starts (most (require-pass _ _ some)) (w .at) (w .before) lt) (w .refuses))
-      (λ sections e. let f = require-refuse _ _ r e in rw (← f .1) (refl, beyond (lacks (f .0))))))
+      (λ sections e. let f = require-refuse _ _ r e in rw (← f .1) (trailing-bytes refl refl (beyond (lacks (f .0)))))))
 
 -- sections 1 to 3: each record's check against its plain statement
 module _ (P : Plan) where

@@ -226,24 +226,24 @@ module _ (P : Plan) where
   Started s = (t : ℕ) × (t < s) × (statementKind P t ≡ 0)
 
   -- what a statement sees is among the variables before it
-  pub sees : {s v d : ℕ} → Resolves P s v d → (v < variables P s) × (definition P s v ≡ d)
-  sees {s} {v} {d} w =
+  pub resolves : {s v d : ℕ} → Resolves P s v d → (v < variables P s) × (definition P s v ≡ d)
+  resolves {s} {v} {d} w =
       let n = numbered (w .variable) in
       let g = inside (w .within) (omega (arith, n .within .after)) (w .earlier) (omega arith) in
       (omega (arith, g .grown, n .number), g .kept v (omega (arith, n .number)) ∙ n .found)
 
   pub one-definition : {s v d e : ℕ} → Resolves P s v d → Resolves P s v e → d ≡ e
-  one-definition u w = sym (sees u .1) ∙ sees w .1
+  one-definition u w = sym (resolves u .1) ∙ resolves w .1
 
-  pub sees-started : {s v d : ℕ} → Resolves P s v d → Started s
-  sees-started w = (w .loop, omega (arith, w .earlier, numbered (w .variable) .within .after), w .within .opened)
+  pub resolves-started : {s v d : ℕ} → Resolves P s v d → Started s
+  resolves-started w = (w .loop, omega (arith, w .earlier, numbered (w .variable) .within .after), w .within .opened)
 
-  pub sees-loop : {s v d : ℕ} → Resolves P s v d → loop P d ≡ loop P s
-  sees-loop w = in-loop .1 (numbered (w .variable) .within) .2 ∙ sym (in-loop .1 (w .within) .2)
+  pub resolves-loop : {s v d : ℕ} → Resolves P s v d → loop P d ≡ loop P s
+  resolves-loop w = in-loop .1 (numbered (w .variable) .within) .2 ∙ sym (in-loop .1 (w .within) .2)
 
   -- and a variable before it is seen by a statement that opens no loop
-  pub seen : {s v : ℕ} → Started s → (statementKind P s ≡ 0 → ⊥) → v < variables P s → Resolves P s v (definition P s v)
-  seen {s} {v} (t, lt, h) n l =
+  pub resolved : {s v : ℕ} → Started s → (statementKind P s ≡ 0 → ⊥) → v < variables P s → Resolves P s v (definition P s v)
+  resolved {s} {v} (t, lt, h) n l =
       let m = made s t v lt h l in
       record {
         loop = loopBefore P s;
@@ -252,12 +252,12 @@ module _ (P : Plan) where
         earlier = m .0;
       }
 
-  pub sees-is :
+  pub resolves-is :
       {s v d : ℕ} → Started s → (statementKind P s ≡ 0 → ⊥) → (v < variables P s) × (definition P s v ≡ d) ↔ Resolves P s v d
-  sees-is st n = (λ w. rw (w .1) at (seen st n (w .0)), sees)
+  resolves-is st n = (λ w. rw (w .1) at (resolved st n (w .0)), resolves)
 
-  pub room-is : {s : ℕ} → Started s → Defining P s → (variables P s < 16) ↔ WithinVariableLimit P s
-  room-is {s} (t, lt, h) D = (λ l. room l, λ r. omega (arith, numbered (r .variable) .number, defined s D .0, r .few))
+  pub variable-limit-is : {s : ℕ} → Started s → Defining P s → (variables P s < 16) ↔ WithinVariableLimit P s
+  variable-limit-is {s} (t, lt, h) D = (λ l. room l, λ r. omega (arith, numbered (r .variable) .number, defined s D .0, r .few))
     where
       room : variables P s < 16 → WithinVariableLimit P s
       room l =

@@ -1,4 +1,4 @@
--- The two readings of "each need is concluded" agree, where the statements are formed, the nodes are listed, and the readings of what
+-- The two readings of needs that are concluded agree, where the statements are formed, the nodes are listed, and the readings of what
 -- a step concludes agree.
 use Prim.Native.Nat.{ℕ, _<_}
 use mathlib.Core.Path.{_≡_, sym, ap}
@@ -9,14 +9,14 @@ use Rattle.model.specs.Tests.{Is, _and_, _or_, non, any}
 use Rattle.model.specs.Layout.{Plan, nodeCount, statementCount, stepCount}
 use Rattle.model.specs.Statements.{opens, accesses, operandDefinition}
 use Rattle.model.specs.Lemmas.{concludesSubset, concludesDisjoint, concludesComplete}
-use Rattle.model.specs.Needs.{symbol, symbolNode, bound, operandBound, loopNeedsMet, accessNeedMet}
+use Rattle.model.specs.Needs.{symbol, bound, operandBound, loopNeedsMet, accessNeedMet}
 use Rattle.model.specs.LoopRelations.{AccessThrough, Bound}
 use Rattle.model.specs.PlainPlan.{ConcludesSubset, ConcludesDisjoint, ConcludesComplete, NeedsConcluded}
 use Rattle.model.proofs.Tests.{both, pair, implied, implies, less, less!, some-of, among}
 use Rattle.model.proofs.StatementKinds.{opens-is}
-use Rattle.model.proofs.VariablesAgree.{FormedBefore, access-told}
-use Rattle.model.proofs.ParallelAgree.{access-sees, access-through, reduces-through-pointer}
-use Rattle.model.proofs.SymbolsAgree.{symbol-told, symbols-before, NodesListed, bound-is}
+use Rattle.model.proofs.VariablesAgree.{FormedBefore, access-computed}
+use Rattle.model.proofs.ParallelAgree.{access-resolves, access-through, reduces-through-pointer}
+use Rattle.model.proofs.SymbolsAgree.{symbol-computed, symbols-before, NodesListed, bound-is}
 
 -- the two readings of what a step concludes agree
 pub record ConclusionsAgree (P : Plan) : Type 0 where
@@ -37,7 +37,7 @@ module _ (P : Plan) (F : FormedBefore P (statementCount P)) (N : NodesListed P) 
   -- the bound of an access's variable
   access-bound : {s d x : ℕ} → s < statementCount P → AccessThrough P s d → (bound P d ≡ x) × (x < nodeCount P) ↔ Bound P d x
   access-bound {d = d} l a =
-      let v = access-sees P a .1 in
+      let v = access-resolves P a .1 in
       bound-is P N {d = d} (omega (arith, v .earlier)) (λ t m. F t (omega (arith, v .earlier)))
 
   plainly : (s : ℕ) → s < statementCount P → Is (needsMet P s) → NeedsConcluded P s
@@ -46,16 +46,16 @@ module _ (P : Plan) (F : FormedBefore P (statementCount P)) (N : NodesListed P) 
       record {
         complete = λ k e w.
             let m = implied (both h .0) (opens-is P s .1 e) in
-            rw (symbol-told P w) at (searched (λ t. C .complete t _) .0 (both m .0));
+            rw (symbol-computed P w) at (searched (λ t. C .complete t _) .0 (both m .0));
         disjoint = λ k e w r.
             let m = implied (both h .0) (opens-is P s .1 e) in
             let c = implied (both m .1) (reduces-through-pointer P F s .1 r) in
-            rw (symbol-told P w) at (searched (λ t. C .disjoint t _) .0 c);
+            rw (symbol-computed P w) at (searched (λ t. C .disjoint t _) .0 c);
         contained = λ d k a w.
-            let t = access-told P a in
+            let t = access-computed P a in
             let m = both (implied (both h .1) (t .0)) in
             let lt = less (m .0) in
-            let c = rw (symbol-told P w) at (searched (λ t. C .subset t (operandBound P s) (symbolNode P s)) .0 (m .1)) in
+            let c = rw (symbol-computed P w) at (searched (λ t. C .subset t _ _) .0 (m .1)) in
             let b = access-bound l a .0 (ap (bound P) (sym (t .2)), lt) in
             (operandBound P s, c .0, b, lt, c .1, c .2);
       }
@@ -77,7 +77,7 @@ module _ (P : Plan) (F : FormedBefore P (statementCount P)) (N : NodesListed P) 
           let w = R .contained (operandDefinition P s) (symbol P s) a (symbols-before P s) in
           let b = access-bound l a .1 (w .2) in
           pair (less! (rw (b .0) (w .3)))
-          (searched (λ t. C .subset t (operandBound P s) (symbolNode P s)) .1 (w .1, w .4, rw (b .0) (w .5)))
+          (searched (λ t. C .subset t _ _) .1 (w .1, w .4, rw (b .0) (w .5)))
 
   pub needs-concluded : (s : ℕ) → s < statementCount P → Is (needsMet P s) ↔ NeedsConcluded P s
   needs-concluded s l = (plainly s l, tested s l)

@@ -14,7 +14,7 @@ use Rattle.model.specs.declared.Outcome.{Outcome}
 use Rattle.model.specs.declared.Outcome.the-variants.{Pass, Refuse}
 use Rattle.model.specs.declared.Answer.{Answer}
 use Rattle.model.proofs.Tests.{failing, left}
-use Rattle.model.specs.declared.Answer.the-variants.{Accepted}
+use Rattle.model.specs.declared.Answer.the-variants.{Accepted, Refused}
 
 pub never {ℓ} : {A : Type ℓ} {r : Refusal} → Refuse r ≡ Pass → A
 never h = let z : _≡_ {A = ℕ} 0 1 = cc in absurd (omega arith)
@@ -122,6 +122,11 @@ pub conclude-accepted : (o : Outcome) (a : Answer) (s n t : ℕ) → conclude o 
 unfolding conclude
 conclude-accepted Pass a s n t h = (refl, h)
 conclude-accepted (Refuse r) a s n t h = let z : _≡_ {A = ℕ} 0 1 = cc in absurd (omega arith)
+
+pub conclude-refused : (o : Outcome) (s n t : ℕ) (r : Refusal) → conclude o (Accepted s n t) ≡ Refused r → o ≡ Refuse r
+unfolding conclude
+conclude-refused Pass s n t r h = let z : _≡_ {A = ℕ} 0 1 = cc in absurd (omega arith)
+conclude-refused (Refuse q) s n t r h = cc
 
 pub conclude-pass : (o : Outcome) (a : Answer) → o ≡ Pass → conclude o a ≡ a
 unfolding conclude

@@ -12,14 +12,14 @@ use Rattle.model.specs.LoopRelations.{InLoop, Resolves, VariableRegion, 
 use Rattle.model.specs.PlainPlan.{ParallelizableLoop}
 use Rattle.model.proofs.Tests.{both, pair, either, one, lacks, refuted, split, implied, implies, same, same!, every-at, every-of, some-of, among}
 use Rattle.model.proofs.StatementKinds.{access-no-for, accesses-is, reads-is, writes-is, reduces-is}
-use Rattle.model.proofs.LoopsAgree.{in-loop, loop-of, sees-started, variable-kind}
-use Rattle.model.proofs.VariablesAgree.{FormedBefore, formed-operand, region-is, centered-is, access-told, access-is}
+use Rattle.model.proofs.LoopsAgree.{in-loop, loop-of, resolves-started, variable-kind}
+use Rattle.model.proofs.VariablesAgree.{FormedBefore, formed-operand, region-is, centered-is, access-computed, access-is}
 
 module _ (P : Plan) where
   -- the variable that an access goes through is seen by it
-  pub access-sees : {s d : ℕ} → AccessThrough P s d → (v : ℕ) × Resolves P s v d
-  access-sees (by-load e w) = (_, w)
-  access-sees (directly l m w) = (_, w)
+  pub access-resolves : {s d : ℕ} → AccessThrough P s d → (v : ℕ) × Resolves P s v d
+  access-resolves (by-load e w) = (_, w)
+  access-resolves (directly l m w) = (_, w)
 
   -- an access that is formed, as a relation
   pub access-through : {s : ℕ} → FormedBefore P (suc s) → Is (accesses P s) → AccessThrough P s (operandDefinition P s)
@@ -30,14 +30,14 @@ module _ (P : Plan) where
   -- its region, and whether it is centered
   pub access-region : {s d r : ℕ} → FormedBefore P s → AccessThrough P s d → (operandRegion P s ≡ r) ↔ VariableRegion P d r
   access-region {d = d} F a =
-      let w = access-sees a .1 in
-      rw (access-told P a .2) (region-is P {d = d} (λ t l. F t (omega (arith, w .earlier))) (variable-kind P (w .variable)))
+      let w = access-resolves a .1 in
+      rw (access-computed P a .2) (region-is P {d = d} (λ t l. F t (omega (arith, w .earlier))) (variable-kind P (w .variable)))
 
   pub access-centered :
       {s d : ℕ} → FormedBefore P s → AccessThrough P s d → Is (centered P (operandDefinition P s)) ↔ Centered P d
   access-centered F a =
-      let w = access-sees a .1 in
-      rw (access-told P a .2) (centered-is P (λ t l. F t (omega (arith, w .earlier))))
+      let w = access-resolves a .1 in
+      rw (access-computed P a .2) (centered-is P (λ t l. F t (omega (arith, w .earlier))))
 
   pub access-uncentered : {s d : ℕ} → FormedBefore P s → AccessThrough P s d → Is (uncentered P s) ↔ (Centered P d → ⊥)
   unfolding uncentered
@@ -46,14 +46,14 @@ module _ (P : Plan) where
   -- the accesses of a loop
   pub access-of-loop : {f s d : ℕ} → InLoop P f s → AccessThrough P s d → Is (accessOfLoop P f s)
   unfolding accessOfLoop
-  access-of-loop i a = pair (access-told P a .0) (same! (in-loop P .1 i .2))
+  access-of-loop i a = pair (access-computed P a .0) (same! (in-loop P .1 i .2))
 
   pub loop-access :
       {f s : ℕ} → FormedBefore P (suc s) → Is (accessOfLoop P f s) → InLoop P f s × AccessThrough P s (operandDefinition P s)
   unfolding accessOfLoop
   loop-access {f} {s} F h =
       let a = access-through F (both h .0) in
-      let t = sees-started P (access-sees a .1) in
+      let t = resolves-started P (access-resolves a .1) in
       (rw (same (both h .1)) at (loop-of P s (t .0) (omega arith) (t .2)), a)
 
   module _ (F : FormedBefore P (statementCount P)) where
@@ -80,39 +80,6 @@ module _ (P : Plan) where
 
     centered-in : {f s d : ℕ} → AccessIn f s d → Is (centered P (operandDefinition P s)) ↔ Centered P d
     centered-in a = access-centered (λ t m. F t (omega (arith, a .inside))) (a .through)
-
-    -- two accesses of a parallelizable loop do not conflict
-    no-conflict : {f s t d e : ℕ} → ParallelizableLoop P f → AccessIn f s d → AccessIn f t e → Is (conflicts P s t) → ⊥
-    unfolding conflicts sameTarget
-    no-conflict {f} {s} {t} {d} {e} L a b c = elim (either (both c .1)) [ inl h ↦ by-reduction h | inr h ↦ by-read h ]
-      where
-        target : VariableRegion P d (operandRegion P t)
-        target = region-in a .0 (same (both c .0))
-
-        by-reduction :
-            Is (reduces P s and uncentered P s and non (reduces P t and uncentered P t and statementC P s == statementC P t)) → ⊥
-        by-reduction h =
-            let u = both (both h .1) in
-            let n =
-            L .reductions-alone s t d e (operandRegion P t) (a .inside) (b .inside) (a .within) (b .within)
-            (reduces-is P s .0 (both h .0)) (a .through) (uncentered-in a .0 (u .0)) target (b .through) (region-in b .0 refl) in
-            lacks (u .1) (pair (reduces-is P t .1 (n .0)) (pair (uncentered-in b .1 (n .1)) (same! (sym (n .2)))))
-
-        by-read : Is (reads P s and uncentered P s and (writes P t or reduces P t)) → ⊥
-        by-read h =
-            let u = both (both h .1) in
-            L .reads-undisturbed s t d e (operandRegion P t) (a .inside) (b .inside) (a .within) (b .within)
-            (reads-is P s .0 (both h .0)) (a .through) (uncentered-in a .0 (u .0)) target (b .through) (region-in b .0 refl)
-            (elim (either (u .1)) [ inl x ↦ inl (writes-is P t .0 x) | inr x ↦ inr (reduces-is P t .0 x) ])
-
-    tested : {f : ℕ} → ParallelizableLoop P f → Is (parallelizable P f)
-    unfolding parallelizable
-    tested {f} L =
-        every-of _ _ (λ s ls. implies (λ hs.
-        let a = access-tested ls hs in
-        pair
-        (refuted (λ w. uncentered-in a .0 (both w .1) (L .writes-centered s _ ls (a .within) (writes-is P s .0 (both w .0)) (a .through))))
-        (every-of _ _ (λ t lt. implies (λ ht. refuted (no-conflict L a (access-tested lt ht)))))))
 
     module _ {f : ℕ} (h : Is (parallelizable P f)) where
       tests-at :
@@ -163,6 +130,39 @@ module _ (P : Plan) where
             reductions-alone = λ s t d e r ls lt i j k a n q b u. lone-reduction (access-in ls i a) (access-in lt j b) k n q u;
             reads-undisturbed = λ s t d e r ls lt i j k a n q b u m. undisturbed-read (access-in ls i a) (access-in lt j b) k n q u m;
           }
+
+    -- two accesses of a parallelizable loop do not conflict
+    no-conflict : {f s t d e : ℕ} → ParallelizableLoop P f → AccessIn f s d → AccessIn f t e → Is (conflicts P s t) → ⊥
+    unfolding conflicts sameTarget
+    no-conflict {f} {s} {t} {d} {e} L a b c = elim (either (both c .1)) [ inl h ↦ by-reduction h | inr h ↦ by-read h ]
+      where
+        target : VariableRegion P d (operandRegion P t)
+        target = region-in a .0 (same (both c .0))
+
+        by-reduction :
+            Is (reduces P s and uncentered P s and non (reduces P t and uncentered P t and statementC P s == statementC P t)) → ⊥
+        by-reduction h =
+            let u = both (both h .1) in
+            let n =
+            L .reductions-alone s t d e (operandRegion P t) (a .inside) (b .inside) (a .within) (b .within)
+            (reduces-is P s .0 (both h .0)) (a .through) (uncentered-in a .0 (u .0)) target (b .through) (region-in b .0 refl) in
+            lacks (u .1) (pair (reduces-is P t .1 (n .0)) (pair (uncentered-in b .1 (n .1)) (same! (sym (n .2)))))
+
+        by-read : Is (reads P s and uncentered P s and (writes P t or reduces P t)) → ⊥
+        by-read h =
+            let u = both (both h .1) in
+            L .reads-undisturbed s t d e (operandRegion P t) (a .inside) (b .inside) (a .within) (b .within)
+            (reads-is P s .0 (both h .0)) (a .through) (uncentered-in a .0 (u .0)) target (b .through) (region-in b .0 refl)
+            (elim (either (u .1)) [ inl x ↦ inl (writes-is P t .0 x) | inr x ↦ inr (reduces-is P t .0 x) ])
+
+    tested : {f : ℕ} → ParallelizableLoop P f → Is (parallelizable P f)
+    unfolding parallelizable
+    tested {f} L =
+        every-of _ _ (λ s ls. implies (λ hs.
+        let a = access-tested ls hs in
+        pair
+        (refuted (λ w. uncentered-in a .0 (both w .1) (L .writes-centered s _ ls (a .within) (writes-is P s .0 (both w .0)) (a .through))))
+        (every-of _ _ (λ t lt. implies (λ ht. refuted (no-conflict L a (access-tested lt ht)))))))
 
     pub loop-parallelizable : (f : ℕ) → Is (parallelizable P f) ↔ ParallelizableLoop P f
     loop-parallelizable f = (plainly, tested)

@@ -13,8 +13,8 @@ use Rattle.model.specs.PlainPlan.{StatementFormed, for-formed, load-form
 use Rattle.model.specs.declared.StatementKind.{StatementKind}
 use Rattle.model.proofs.Tests.{falsum, both, pair, latest, same, same!, less, less! }
 use Rattle.model.proofs.StatementKinds.{FollowsMap, KindView, is-for, is-load, is-call, is-copy, is-read, is-write, is-reduce, is-unknown, kind-view}
-use Rattle.model.proofs.LoopsAgree.{sees, sees-started, room-is}
-use Rattle.model.proofs.VariablesAgree.{FormedBefore, kind-at, formed-at, operand-a, operand-b, operand-seen, formed-operand, operand-sees, region-told, seen-region}
+use Rattle.model.proofs.LoopsAgree.{resolves, resolves-started, variable-limit-is}
+use Rattle.model.proofs.VariablesAgree.{FormedBefore, kind-at, formed-at, operand-a, operand-b, operand-resolved, formed-operand, operand-resolves, region-computed, resolved-region}
 
 three : {a b c : Bool} → Is (a and b and c) → Is a × Is b × Is c
 three h = let t = both (both h .1) in (both h .0, t .0, t .1)
@@ -25,7 +25,7 @@ four h = let t = three (both h .1) in (both h .0, t .0, t .1, t .2)
 module _ (P : Plan) where
   -- the region of the variable on which a statement works
   pub operand-region : {s v d r : ℕ} → operand P s ≡ v → Resolves P s v d → VariableRegion P d r → operandRegion P s ≡ r
-  operand-region o w q = ap (variableRegion P) (operand-seen P o w .1) ∙ region-told P q
+  operand-region o w q = ap (variableRegion P) (operand-resolved P o w .1) ∙ region-computed P q
 
   field :
       {s v d r n : ℕ} → operand P s ≡ v → Resolves P s v d → VariableRegion P d r → n < fields P r →
@@ -33,39 +33,39 @@ module _ (P : Plan) where
   field o w q f = less! (rw (operand-region o w q) f)
 
   room : {s v d : ℕ} → Resolves P s v d → Defining P s → WithinVariableLimit P s → Is (variables P s <? 16)
-  room w D m = less! (room-is P (sees-started P w) D .1 m)
+  room w D m = less! (variable-limit-is P (resolves-started P w) D .1 m)
 
-  pub formed-told : {s : ℕ} → StatementFormed P s → Is (statementFormed P s)
+  pub formed-computed : {s : ℕ} → StatementFormed P s → Is (statementFormed P s)
   unfolding statementFormedBy kindOf
-  formed-told {s} (for-formed e a b c) = rw (formed-at P s (kind-at P s 0 e)) (pair (less! a) (pair (same! b) (same! c)))
-  formed-told {s} (load-formed e a w m q f) =
+  formed-computed {s} (for-formed e a b c) = rw (formed-at P s (kind-at P s 0 e)) (pair (less! a) (pair (same! b) (same! c)))
+  formed-computed {s} (load-formed e a w m q f) =
       rw (formed-at P s (kind-at P s 1 e))
-      (pair (less! a) (pair (less! (sees P w .0)) (pair (room w (omega arith) m) (field (operand-b P s (inl e)) w q f))))
-  formed-told {s} (call-formed e a w m c) =
-      rw (formed-at P s (kind-at P s 2 e)) (pair (less! a) (pair (less! (sees P w .0)) (pair (room w (omega arith) m) (same! c))))
-  formed-told {s} (copy-formed e w m b c) =
-      rw (formed-at P s (kind-at P s 3 e)) (pair (less! (sees P w .0)) (pair (room w (omega arith) m) (pair (same! b) (same! c))))
-  formed-told {s} (read-or-write-formed (inl e) w q f c) =
+      (pair (less! a) (pair (less! (resolves P w .0)) (pair (room w (omega arith) m) (field (operand-b P s (inl e)) w q f))))
+  formed-computed {s} (call-formed e a w m c) =
+      rw (formed-at P s (kind-at P s 2 e)) (pair (less! a) (pair (less! (resolves P w .0)) (pair (room w (omega arith) m) (same! c))))
+  formed-computed {s} (copy-formed e w m b c) =
+      rw (formed-at P s (kind-at P s 3 e)) (pair (less! (resolves P w .0)) (pair (room w (omega arith) m) (pair (same! b) (same! c))))
+  formed-computed {s} (read-or-write-formed (inl e) w q f c) =
       rw (formed-at P s (kind-at P s 4 e))
-      (pair (less! (sees P w .0)) (pair (field (operand-a P s (omega arith) (omega arith)) w q f) (same! c)))
-  formed-told {s} (read-or-write-formed (inr e) w q f c) =
+      (pair (less! (resolves P w .0)) (pair (field (operand-a P s (omega arith) (omega arith)) w q f) (same! c)))
+  formed-computed {s} (read-or-write-formed (inr e) w q f c) =
       rw (formed-at P s (kind-at P s 5 e))
-      (pair (less! (sees P w .0)) (pair (field (operand-a P s (omega arith) (omega arith)) w q f) (same! c)))
-  formed-told {s} (reduce-formed e w q f c) =
+      (pair (less! (resolves P w .0)) (pair (field (operand-a P s (omega arith) (omega arith)) w q f) (same! c)))
+  formed-computed {s} (reduce-formed e w q f c) =
       rw (formed-at P s (kind-at P s 6 e))
-      (pair (less! (sees P w .0)) (pair (field (operand-a P s (omega arith) (omega arith)) w q f) (less! (omega arith))))
+      (pair (less! (resolves P w .0)) (pair (field (operand-a P s (omega arith) (omega arith)) w q f) (less! (omega arith))))
 
   -- what a statement works on, where it and the statements before it are formed
-  pub formed-sees : {s : ℕ} → FormedBefore P (suc s) → (statementKind P s ≡ 0 → ⊥) → Resolves P s (operand P s) (operandDefinition P s)
-  formed-sees {s} F n = operand-sees P (λ t l. F t (omega arith)) n (formed-operand P s n (F s (omega arith)))
+  pub formed-resolves : {s : ℕ} → FormedBefore P (suc s) → (statementKind P s ≡ 0 → ⊥) → Resolves P s (operand P s) (operandDefinition P s)
+  formed-resolves {s} F n = operand-resolves P (λ t l. F t (omega arith)) n (formed-operand P s n (F s (omega arith)))
 
-  pub formed-sees-a :
+  pub formed-resolves-a :
       {s : ℕ} → FormedBefore P (suc s) → 3 ≤ statementKind P s → statementKind P s ≤ 6 →
       Resolves P s (statementA P s) (operandDefinition P s)
-  formed-sees-a {s} F l m = rw (operand-a P s l m) at (formed-sees F (omega arith))
+  formed-resolves-a {s} F l m = rw (operand-a P s l m) at (formed-resolves F (omega arith))
 
-  pub formed-sees-b : {s : ℕ} → FormedBefore P (suc s) → FollowsMap P s → Resolves P s (statementB P s) (operandDefinition P s)
-  formed-sees-b {s} F e = rw (operand-b P s e) at (formed-sees F (⊎-elim (omega arith) (omega arith) e))
+  pub formed-resolves-b : {s : ℕ} → FormedBefore P (suc s) → FollowsMap P s → Resolves P s (statementB P s) (operandDefinition P s)
+  formed-resolves-b {s} F e = rw (operand-b P s e) at (formed-resolves F (⊎-elim (omega arith) (omega arith) e))
 
   pub formed-next : {s : ℕ} → FormedBefore P s → Is (statementFormed P s) → FormedBefore P (suc s)
   formed-next {s} F h t l = elim (latest t s l) [ inl e ↦ rw e h | inr lt ↦ F t lt ]
@@ -78,39 +78,39 @@ module _ (P : Plan) where
       G = formed-next F h
 
       has-room : Defining P s → Is (variables P s <? 16) → WithinVariableLimit P s
-      has-room D l = room-is P (sees-started P (formed-sees G (omega arith))) D .0 (less l)
+      has-room D l = variable-limit-is P (resolves-started P (formed-resolves G (omega arith))) D .0 (less l)
 
       region : (statementKind P s ≡ 0 → ⊥) → VariableRegion P (operandDefinition P s) (operandRegion P s)
-      region n = seen-region P F (formed-sees G n)
+      region n = resolved-region P F (formed-resolves G n)
 
       go : KindView (statementKind P s) (kind P s) → StatementFormed P s
       go (is-for e k) = let t = three (rw (formed-at P s k) at h) in for-formed e (less (t .0)) (same (t .1)) (same (t .2))
       go (is-load e k) =
           let t = four (rw (formed-at P s k) at h) in
-          load-formed e (less (t .0)) (formed-sees-b G (inl e)) (has-room (omega arith) (t .2)) (region (omega arith))
+          load-formed e (less (t .0)) (formed-resolves-b G (inl e)) (has-room (omega arith) (t .2)) (region (omega arith))
           (less (t .3))
       go (is-call e k) =
           let t = four (rw (formed-at P s k) at h) in
-          call-formed e (less (t .0)) (formed-sees-b G (inr e)) (has-room (omega arith) (t .2)) (same (t .3))
+          call-formed e (less (t .0)) (formed-resolves-b G (inr e)) (has-room (omega arith) (t .2)) (same (t .3))
       go (is-copy e k) =
           let t = four (rw (formed-at P s k) at h) in
-          copy-formed e (formed-sees-a G (omega arith) (omega arith)) (has-room (omega arith) (t .1)) (same (t .2)) (same (t .3))
+          copy-formed e (formed-resolves-a G (omega arith) (omega arith)) (has-room (omega arith) (t .1)) (same (t .2)) (same (t .3))
       go (is-read e k) =
           let t = three (rw (formed-at P s k) at h) in
-          read-or-write-formed (inl e) (formed-sees-a G (omega arith) (omega arith)) (region (omega arith)) (less (t .1))
+          read-or-write-formed (inl e) (formed-resolves-a G (omega arith) (omega arith)) (region (omega arith)) (less (t .1))
           (same (t .2))
       go (is-write e k) =
           let t = three (rw (formed-at P s k) at h) in
-          read-or-write-formed (inr e) (formed-sees-a G (omega arith) (omega arith)) (region (omega arith)) (less (t .1))
+          read-or-write-formed (inr e) (formed-resolves-a G (omega arith) (omega arith)) (region (omega arith)) (less (t .1))
           (same (t .2))
       go (is-reduce e k) =
           let t = three (rw (formed-at P s k) at h) in
           let c = less (t .2) in
-          reduce-formed e (formed-sees-a G (omega arith) (omega arith)) (region (omega arith)) (less (t .1)) (omega arith)
+          reduce-formed e (formed-resolves-a G (omega arith) (omega arith)) (region (omega arith)) (less (t .1)) (omega arith)
       go (is-unknown e k) = falsum (rw (formed-at P s k) at h)
 
   pub statement-formed : (s : ℕ) → FormedBefore P s → Is (statementFormed P s) ↔ StatementFormed P s
-  statement-formed s F = (formed-by F, formed-told)
+  statement-formed s F = (formed-by F, formed-computed)
 
   -- Mismatch
   agrees-at : (s : ℕ) {K : StatementKind} → kind P s ≡ K → statementAgrees P s ≡ statementAgreesBy P K s
@@ -131,11 +131,11 @@ module _ (P : Plan) where
           {d : ℕ} → Is (statementAgrees P s) → FollowsMap P s → Resolves P s (statementB P s) d →
           VariableRegion P d (source P (statementA P s))
       plainly h m w =
-          let q = seen-region P (λ t l. F t (omega arith)) w in
+          let q = resolved-region P (λ t l. F t (omega arith)) w in
           rw (sym (operand-region (operand-b P s m) w q) ∙ agrees-source s m .0 h) at q
 
       tested : StatementAgrees P s → FollowsMap P s → Is (statementAgrees P s)
-      tested a m = agrees-source s m .1 (region-told P (a m (operandDefinition P s) (formed-sees-b F m)))
+      tested a m = agrees-source s m .1 (region-computed P (a m (operandDefinition P s) (formed-resolves-b F m)))
 
       go : StatementAgrees P s → KindView (statementKind P s) (kind P s) → Is (statementAgrees P s)
       go a (is-for e k) = agrees-at s k

@@ -11,11 +11,11 @@ use Rattle.model.specs.Statements.{kindOf, kind, operandDefinition, vari
 use Rattle.model.specs.Needs.{hasSymbol, symbol, symbolNode, symbolRegion, imageNode, boundBy, bound}
 use Rattle.model.specs.LoopRelations.{HasSymbol, SymbolsBefore, none-yet, counted, passed, SymbolRegion, Bound}
 use Rattle.model.specs.declared.StatementKind.{StatementKind}
-use Rattle.model.proofs.Tests.{both, either, one, split, lacks, refuted, fails, same, same!, pair, pick-true, pick-false, first-found, first-most}
+use Rattle.model.proofs.Tests.{both, either, one, split, lacks, refuted, fails, same, same!, pair, pick-true, pick-false, latest, first-found, first-most}
 use Rattle.model.proofs.Recursion.{below-at}
 use Rattle.model.proofs.StatementKinds.{FollowsMap, KindView, is-for, is-load, is-call, is-copy, is-read, is-write, is-reduce, is-unknown, kind-view, opens-is, accesses-is, access-opens-none}
-use Rattle.model.proofs.VariablesAgree.{FormedBefore, kind-at, course-kind, operand-a, operand-b, operand-seen, region-told, access-told}
-use Rattle.model.proofs.StatementsAgree.{formed-sees-a, formed-sees-b}
+use Rattle.model.proofs.VariablesAgree.{FormedBefore, kind-at, course-kind, operand-a, operand-b, operand-resolved, region-computed, access-computed}
+use Rattle.model.proofs.StatementsAgree.{formed-resolves-a, formed-resolves-b}
 use Rattle.model.proofs.ParallelAgree.{access-through, access-region}
 
 module _ (P : Plan) where
@@ -27,11 +27,11 @@ module _ (P : Plan) where
   )
 
   -- the number of symbols before a statement
-  pub symbol-told : {s k : ℕ} → SymbolsBefore P s k → symbol P s ≡ k
+  pub symbol-computed : {s k : ℕ} → SymbolsBefore P s k → symbol P s ≡ k
   unfolding symbol
-  symbol-told none-yet = refl
-  symbol-told (counted {s = s} w h) = pick-true _ _ _ (has-symbol s .1 h) ∙ ap suc (symbol-told w)
-  symbol-told (passed {s = s} w n) = pick-false _ _ _ (fails (refuted (λ h. n (has-symbol s .0 h)))) ∙ symbol-told w
+  symbol-computed none-yet = refl
+  symbol-computed (counted {s = s} w h) = pick-true _ _ _ (has-symbol s .1 h) ∙ ap suc (symbol-computed w)
+  symbol-computed (passed {s = s} w n) = pick-false _ _ _ (fails (refuted (λ h. n (has-symbol s .0 h)))) ∙ symbol-computed w
 
   pub symbols-before : (s : ℕ) → SymbolsBefore P s (symbol P s)
   unfolding symbol
@@ -44,15 +44,39 @@ module _ (P : Plan) where
       go (inr n) w = rw (pick-false _ _ _ (fails n)) (passed w (λ h. lacks n (has-symbol s .1 h)))
 
   pub symbol-is : {s k : ℕ} → (symbol P s ≡ k) ↔ SymbolsBefore P s k
-  symbol-is {s} = (λ e. rw e at (symbols-before s), symbol-told)
+  symbol-is {s} = (λ e. rw e at (symbols-before s), symbol-computed)
+
+  -- symbols grow with the statements that have one
+  symbol-next : (s : ℕ) → (symbol P s ≤ symbol P (suc s)) × (symbol P (suc s) ≤ suc (symbol P s)) × (Is (hasSymbol P s) → symbol P (suc s) ≡ suc (symbol P s))
+  unfolding symbol
+  symbol-next s = go (split (hasSymbol P s))
+    where
+      go :
+          Is (hasSymbol P s) ⊎ Is (non (hasSymbol P s)) →
+          (symbol P s ≤ symbol P (suc s)) × (symbol P (suc s) ≤ suc (symbol P s)) × (Is (hasSymbol P s) → symbol P (suc s) ≡ suc (symbol P s))
+      go (inl h) = rw (pick-true _ _ _ h) (omega arith, omega arith, λ y. refl)
+      go (inr n) = rw (pick-false _ _ _ (fails n)) (omega arith, omega arith, λ y. absurd (lacks n y))
+
+  pub symbol-most : (s : ℕ) → symbol P s ≤ s
+  unfolding symbol
+  symbol-most zero = omega arith
+  symbol-most (suc s) = omega (arith, symbol-most s, symbol-next s .1)
+
+  pub symbol-grows : (i s : ℕ) → i < s → Is (hasSymbol P i) → symbol P i < symbol P s
+  symbol-grows i zero l y = absurd (omega arith)
+  symbol-grows i (suc s) l y =
+      elim (latest i s l) [
+        | inl e ↦ let g = symbol-next s .2 (rw e at y) in rw e (omega arith)
+        | inr l ↦ omega (arith, symbol-grows i s l y, symbol-next s .0)
+      ]
 
   -- the region of a symbol
-  region-of-symbol : {s r : ℕ} → SymbolRegion P s r → symbolRegion P s ≡ r
+  pub region-of-symbol : {s r : ℕ} → SymbolRegion P s r → symbolRegion P s ≡ r
   unfolding symbolRegion
   region-of-symbol {s} (SymbolRegion.of-for e q) = pick-true _ _ _ (opens-is P s .1 e) ∙ sym q
   region-of-symbol {s} (SymbolRegion.of-access a q) =
-      let t = access-told P a in
-      pick-false _ _ _ (access-opens-none P s (t .0)) ∙ ap (variableRegion P) (t .2) ∙ region-told P q
+      let t = access-computed P a in
+      pick-false _ _ _ (access-opens-none P s (t .0)) ∙ ap (variableRegion P) (t .2) ∙ region-computed P q
 
   pub symbol-region : {s r : ℕ} → FormedBefore P (suc s) → HasSymbol P s → (symbolRegion P s ≡ r) ↔ SymbolRegion P s r
   unfolding symbolRegion
@@ -90,11 +114,11 @@ module _ (P : Plan) where
   unfolding bound
   bound-at s k = course-kind P (nodeCount P) (boundBy P) s k
 
-  bound-copied : (s : ℕ) → statementKind P s ≡ 3 → operandDefinition P s < s → bound P s ≡ bound P (operandDefinition P s)
+  pub bound-copied : (s : ℕ) → statementKind P s ≡ 3 → operandDefinition P s < s → bound P s ≡ bound P (operandDefinition P s)
   unfolding boundBy kindOf
   bound-copied s e lt = bound-at s (kind-at P s 3 e) ∙ below-at (nodeCount P) s (bound P) (operandDefinition P s) lt
 
-  bound-led : (s : ℕ) → FollowsMap P s → operandDefinition P s < s
+  pub bound-led : (s : ℕ) → FollowsMap P s → operandDefinition P s < s
       → bound P s ≡ imageNode P (bound P (operandDefinition P s)) (statementA P s)
   unfolding boundBy kindOf
   bound-led s (inl e) lt = rw (← below-at (nodeCount P) s (bound P) (operandDefinition P s) lt) (bound-at s (kind-at P s 1 e))
@@ -108,18 +132,18 @@ module _ (P : Plan) where
         let f = image-found (nodeA P x) (nodeB P x) (omega arith) in
         N .images (imageNode P (nodeA P x) (nodeB P x)) x (omega arith) lt (f .0) e (f .1) (f .2)
 
-    bound-told : {d x : ℕ} → d < statementCount P → Bound P d x → (bound P d ≡ x) × (x < nodeCount P)
+    bound-computed : {d x : ℕ} → d < statementCount P → Bound P d x → (bound P d ≡ x) × (x < nodeCount P)
     unfolding boundBy kindOf
-    bound-told l (Bound.of-for {d = d} {x = x} e w q) =
-        let z : symbolNode P d ≡ x = ap (assigned P) (symbol-told P w) ∙ sym q in
+    bound-computed l (Bound.of-for {d = d} {x = x} e w q) =
+        let z : symbolNode P d ≡ x = ap (assigned P) (symbol-computed P w) ∙ sym q in
         (bound-at d (kind-at P d 0 e) ∙ z, rw z at (N .loops d l e))
-    bound-told l (Bound.of-image {d = d} {c = c} {x = x} m w b lt e a n) =
-        let o = operand-seen P (operand-b P d m) w .1 in
-        let r = bound-told (omega (arith, w .earlier)) b .0 in
+    bound-computed l (Bound.of-image {d = d} {c = c} {x = x} m w b lt e a n) =
+        let o = operand-resolved P (operand-b P d m) w .1 in
+        let r = bound-computed (omega (arith, w .earlier)) b .0 in
         (bound-led d m (omega (arith, w .earlier)) ∙ rw (o, r) (rw (a, n) at (image-is x lt e)), lt)
-    bound-told l (Bound.of-copy {d = d} e w b) =
-        let o = operand-seen P (operand-a P d (omega arith) (omega arith)) w .1 in
-        let r = bound-told (omega (arith, w .earlier)) b in
+    bound-computed l (Bound.of-copy {d = d} e w b) =
+        let o = operand-resolved P (operand-a P d (omega arith) (omega arith)) w .1 in
+        let r = bound-computed (omega (arith, w .earlier)) b in
         (bound-copied d e (omega (arith, w .earlier)) ∙ ap (bound P) o ∙ r .0, r .1)
 
     bound-by : (n d : ℕ) → d < n → FormedBefore P (suc d) → bound P d < nodeCount P → Bound P d (bound P d)
@@ -132,7 +156,7 @@ module _ (P : Plan) where
 
         led : FollowsMap P d → Before → Bound P d (bound P d)
         led m r =
-            let w = formed-sees-b P F m in
+            let w = formed-resolves-b P F m in
             let e = bound-led d m (w .earlier) in
             let f = image-found (bound P (operandDefinition P d)) (statementA P d) (rw e at l) in
             let i = N .operands (imageNode P (bound P (operandDefinition P d)) (statementA P d)) (rw e at l) (f .0) in
@@ -143,7 +167,7 @@ module _ (P : Plan) where
         go (is-load e k) r = led (inl e) r
         go (is-call e k) r = led (inr e) r
         go (is-copy e k) r =
-            let w = formed-sees-a P F (omega arith) (omega arith) in
+            let w = formed-resolves-a P F (omega arith) (omega arith) in
             let q = bound-copied d e (w .earlier) in
             rw q (Bound.of-copy e w (r (operandDefinition P d) (w .earlier) (rw q at l)))
         go (is-read e k) r = absurd (omega (arith, bound-at d k))
@@ -152,4 +176,4 @@ module _ (P : Plan) where
         go (is-unknown e k) r = absurd (omega (arith, bound-at d k))
 
     pub bound-is : {d x : ℕ} → d < statementCount P → FormedBefore P (suc d) → (bound P d ≡ x) × (x < nodeCount P) ↔ Bound P d x
-    bound-is {d} l F = (λ (e, lt). rw e at (bound-by (suc d) d (omega arith) F (rw (← e) at lt)), bound-told l)
+    bound-is {d} l F = (λ (e, lt). rw e at (bound-by (suc d) d (omega arith) F (rw (← e) at lt)), bound-computed l)

@@ -6,7 +6,7 @@ use mathlib.Core.Bool.{Bool, true, false}
 use native.Mathlib.Numerals.{add-one}
 use native.Mathlib.Omega.{arith}
 use lib.Dec.{eqb}
-use borrow.Author.Tests.{ltb-true, lt-ltb, leb-true, le-leb, eqb-true, eqb-false, eq-eqb}
+use borrow.Author.Tests.{ltb-true, ltb-false, lt-ltb, leb-true, le-leb, eqb-true, eqb-false, eq-eqb}
 use Rattle.model.specs.Tests.{Is, _and_, _or_, non, _==_, _<?_, _≤?_, any, every, pick, first}
 
 pub falsum {ℓ} : {A : Type ℓ} → false ≡ true → A
@@ -82,6 +82,10 @@ less {a} {b} h = ltb-true a b h
 pub less! : {a b : ℕ} → a < b → Is (a <? b)
 unfolding _<?_
 less! {a} {b} h = lt-ltb a b h
+
+pub not-less : {a b : ℕ} → Is (non (a <? b)) → b ≤ a
+unfolding _<?_
+not-less {a} {b} h = ltb-false a b (fails h)
 
 pub most : {a b : ℕ} → Is (a ≤? b) → a ≤ b
 unfolding _≤?_

@@ -14,7 +14,7 @@ use Rattle.model.specs.declared.StatementKind.{StatementKind}
 use Rattle.model.proofs.Tests.{falsum, both, less}
 use Rattle.model.proofs.Recursion.{course-law, below-at}
 use Rattle.model.proofs.StatementKinds.{Accessing, FollowsMap, KindView, is-for, is-load, is-call, is-copy, is-read, is-write, is-reduce, is-unknown, kind-view, accesses-is}
-use Rattle.model.proofs.LoopsAgree.{Turn, opening, defining, passing, turn, variable-kind, Started, sees, seen}
+use Rattle.model.proofs.LoopsAgree.{Turn, opening, defining, passing, turn, variable-kind, Started, resolves, resolved}
 
 -- all statements before statement s are formed
 abbrev pub FormedBefore : Plan → ℕ → Type 0
@@ -55,9 +55,9 @@ module _ (P : Plan) where
       go (is-unknown e k) = absurd (omega arith)
 
   -- the variable of that number
-  pub operand-seen : {s v d : ℕ} → operand P s ≡ v → Resolves P s v d → (operand P s < variables P s) × (operandDefinition P s ≡ d)
+  pub operand-resolved : {s v d : ℕ} → operand P s ≡ v → Resolves P s v d → (operand P s < variables P s) × (operandDefinition P s ≡ d)
   unfolding operandDefinition
-  operand-seen e w = rw e (sees P w)
+  operand-resolved e w = rw e (resolves P w)
 
   -- a statement that is formed and opens no loop works on a variable that is there
   pub formed-operand : (s : ℕ) → (statementKind P s ≡ 0 → ⊥) → Is (statementFormed P s) → operand P s < variables P s
@@ -89,11 +89,11 @@ module _ (P : Plan) where
       go (passing e m f n k) r = on (r (omega arith))
 
   -- what a statement works on, as a relation
-  pub operand-sees :
+  pub operand-resolves :
       {s : ℕ} → FormedBefore P s → (statementKind P s ≡ 0 → ⊥) → operand P s < variables P s →
       Resolves P s (operand P s) (operandDefinition P s)
   unfolding operandDefinition
-  operand-sees {s} F n l = seen P (started s F (omega arith)) n l
+  operand-resolves {s} F n l = resolved P (started s F (omega arith)) n l
 
   -- the region of a variable, by the kind of the statement that defines it
   region-at : (s : ℕ) {K : StatementKind} → kind P s ≡ K → variableRegion P s ≡ regionBy P K s (below 0 s (variableRegion P))
@@ -107,22 +107,22 @@ module _ (P : Plan) where
 
   -- what a COPY copies
   copied : {s d : ℕ} → statementKind P s ≡ 3 → Resolves P s (statementA P s) d → operandDefinition P s ≡ d
-  copied {s} e w = operand-seen (operand-a s (omega arith) (omega arith)) w .1
+  copied {s} e w = operand-resolved (operand-a s (omega arith) (omega arith)) w .1
 
-  pub region-told : {d r : ℕ} → VariableRegion P d r → variableRegion P d ≡ r
+  pub region-computed : {d r : ℕ} → VariableRegion P d r → variableRegion P d ≡ r
   unfolding regionBy kindOf
-  region-told (of-loop {d = d} e q) = region-at d (kind-at d 0 e) ∙ sym q
-  region-told (of-load {d = d} e q) = region-at d (kind-at d 1 e) ∙ sym q
-  region-told (of-call {d = d} e q) = region-at d (kind-at d 2 e) ∙ sym q
-  region-told (of-copy {d = d} e w q) =
+  region-computed (of-loop {d = d} e q) = region-at d (kind-at d 0 e) ∙ sym q
+  region-computed (of-load {d = d} e q) = region-at d (kind-at d 1 e) ∙ sym q
+  region-computed (of-call {d = d} e q) = region-at d (kind-at d 2 e) ∙ sym q
+  region-computed (of-copy {d = d} e w q) =
       let c = copied e w in
-      region-copied d e (omega (arith, w .earlier)) ∙ ap (variableRegion P) c ∙ region-told q
+      region-copied d e (omega (arith, w .earlier)) ∙ ap (variableRegion P) c ∙ region-computed q
 
   -- a formed COPY copies a variable that it sees
-  copy-sees : (d : ℕ) → FormedBefore P (suc d) → statementKind P d ≡ 3 → Resolves P d (statementA P d) (operandDefinition P d)
-  copy-sees d F e =
+  copy-resolves : (d : ℕ) → FormedBefore P (suc d) → statementKind P d ≡ 3 → Resolves P d (statementA P d) (operandDefinition P d)
+  copy-resolves d F e =
       let o = formed-operand d (omega arith) (F d (omega arith)) in
-      rw (operand-a d (omega arith) (omega arith)) at (operand-sees (λ t l. F t (omega arith)) (omega arith) o)
+      rw (operand-a d (omega arith) (omega arith)) at (operand-resolves (λ t l. F t (omega arith)) (omega arith) o)
 
   region-by : (n d : ℕ) → d < n → FormedBefore P (suc d) → statementKind P d ≤ 3 → VariableRegion P d (variableRegion P d)
   unfolding regionBy
@@ -136,7 +136,7 @@ module _ (P : Plan) where
       go (is-load e k) r = of-load e (region-at d k)
       go (is-call e k) r = of-call e (region-at d k)
       go (is-copy e k) r =
-          let w = copy-sees d F e in
+          let w = copy-resolves d F e in
           rw (region-copied d e (w .earlier))
           (of-copy e w (r (operandDefinition P d) (w .earlier) (variable-kind P (w .variable))))
       go (is-read e k) r = absurd (omega arith)
@@ -145,14 +145,14 @@ module _ (P : Plan) where
       go (is-unknown e k) r = absurd (omega arith)
 
   pub region-is : {d r : ℕ} → FormedBefore P (suc d) → statementKind P d ≤ 3 → (variableRegion P d ≡ r) ↔ VariableRegion P d r
-  region-is {d} F l = (λ e. rw e at (region-by (suc d) d (omega arith) F l), region-told)
+  region-is {d} F l = (λ e. rw e at (region-by (suc d) d (omega arith) F l), region-computed)
 
   pub one-region : {d r q : ℕ} → VariableRegion P d r → VariableRegion P d q → r ≡ q
-  one-region u w = sym (region-told u) ∙ region-told w
+  one-region u w = sym (region-computed u) ∙ region-computed w
 
   -- a variable that is seen has its region
-  pub seen-region : {s v d : ℕ} → FormedBefore P s → Resolves P s v d → VariableRegion P d (variableRegion P d)
-  seen-region F w = region-is (λ t l. F t (omega (arith, w .earlier))) (variable-kind P (w .variable)) .0 refl
+  pub resolved-region : {s v d : ℕ} → FormedBefore P s → Resolves P s v d → VariableRegion P d (variableRegion P d)
+  resolved-region F w = region-is (λ t l. F t (omega (arith, w .earlier))) (variable-kind P (w .variable)) .0 refl
 
   -- whether a variable is centered
   centered-at : (s : ℕ) {K : StatementKind} → kind P s ≡ K → centered P s ≡ centeredBy P K s (below false s (centered P))
@@ -164,12 +164,12 @@ module _ (P : Plan) where
   unfolding centeredBy kindOf
   centered-copied s e lt = centered-at s (kind-at s 3 e) ∙ below-at false s (centered P) (operandDefinition P s) lt
 
-  pub centered-told : {d : ℕ} → Centered P d → Is (centered P d)
+  pub centered-computed : {d : ℕ} → Centered P d → Is (centered P d)
   unfolding centeredBy kindOf
-  centered-told (loop-centered {d = d} e) = centered-at d (kind-at d 0 e)
-  centered-told (copy-centered {d = d} e w q) =
+  centered-computed (loop-centered {d = d} e) = centered-at d (kind-at d 0 e)
+  centered-computed (copy-centered {d = d} e w q) =
       let c = copied e w in
-      centered-copied d e (omega (arith, w .earlier)) ∙ ap (centered P) c ∙ centered-told q
+      centered-copied d e (omega (arith, w .earlier)) ∙ ap (centered P) c ∙ centered-computed q
 
   centered-by : (n d : ℕ) → d < n → FormedBefore P (suc d) → Is (centered P d) → Centered P d
   unfolding centeredBy
@@ -184,7 +184,7 @@ module _ (P : Plan) where
       go (is-load e k) r = not-here (centered-at d k)
       go (is-call e k) r = not-here (centered-at d k)
       go (is-copy e k) r =
-          let w = copy-sees d F e in
+          let w = copy-resolves d F e in
           copy-centered e w (r (operandDefinition P d) (w .earlier) (sym (centered-copied d e (w .earlier)) ∙ h))
       go (is-read e k) r = not-here (centered-at d k)
       go (is-write e k) r = not-here (centered-at d k)
@@ -192,23 +192,23 @@ module _ (P : Plan) where
       go (is-unknown e k) r = not-here (centered-at d k)
 
   pub centered-is : {d : ℕ} → FormedBefore P (suc d) → Is (centered P d) ↔ Centered P d
-  centered-is {d} F = (centered-by (suc d) d (omega arith) F, centered-told)
+  centered-is {d} F = (centered-by (suc d) d (omega arith) F, centered-computed)
 
   -- the variable that an access goes through
-  pub access-told :
+  pub access-computed :
       {s d : ℕ} → AccessThrough P s d → Is (accesses P s) × (operand P s < variables P s) × (operandDefinition P s ≡ d)
-  access-told {s} (by-load e w) =
-      let o = operand-seen (operand-b s (inl e)) w in
+  access-computed {s} (by-load e w) =
+      let o = operand-resolved (operand-b s (inl e)) w in
       (accesses-is P s .1 (inl e), o .0, o .1)
-  access-told {s} (directly l m w) =
-      let o = operand-seen (operand-a s (omega arith) m) w in
+  access-computed {s} (directly l m w) =
+      let o = operand-resolved (operand-a s (omega arith) m) w in
       (accesses-is P s .1 (inr (l, m)), o .0, o .1)
 
   pub access-is :
       {s d : ℕ} → FormedBefore P s →
       Is (accesses P s) × (operand P s < variables P s) × (operandDefinition P s ≡ d) ↔ AccessThrough P s d
-  access-is {s} F = (λ w. rw (w .2) at (go (accesses-is P s .0 (w .0)) (w .1)), access-told)
+  access-is {s} F = (λ w. rw (w .2) at (go (accesses-is P s .0 (w .0)) (w .1)), access-computed)
     where
       go : Accessing P s → operand P s < variables P s → AccessThrough P s (operandDefinition P s)
-      go (inl e) l = by-load e (rw (operand-b s (inl e)) at (operand-sees F (omega arith) l))
-      go (inr (a, b)) l = directly a b (rw (operand-a s (omega arith) b) at (operand-sees F (omega arith) l))
+      go (inl e) l = by-load e (rw (operand-b s (inl e)) at (operand-resolves F (omega arith) l))
+      go (inr (a, b)) l = directly a b (rw (operand-a s (omega arith) b) at (operand-resolves F (omega arith) l))

@@ -11,8 +11,8 @@ use native.Mathlib.Decide.{ℕ-discrete, decLe, decLt}
 use native.Mathlib.Omega.{arith}
 use lib.Arith.{lt-one, digits-mod, digits-div, digits-lt}
 use lib.Pow.{shr-shr}
-use lib.ListN.{length, getD, set, length-set}
-use lib.Seq.{getD-set-same, getD-set-other, ext-getD}
+use lib.ListN.{length, getD, set, drop, length-set}
+use lib.Seq.{getD-set-same, getD-set-other, drop-set-lt, ext-getD}
 use Rattle.model.specs.Tests.{_==_}
 use Rattle.model.specs.Words.{bit, holds, digit, number, word, store}
 
@@ -99,6 +99,18 @@ is-number n w bits h same = sym (number-bits n w h) ∙ number-same n (bit w) bi
 pub bits-decide : (n w v : ℕ) → w < 2 ^ n → v < 2 ^ n → ((b : ℕ) → b < n → bit w b ≡ bit v b) → w ≡ v
 bits-decide n w v h k same = is-number n w (bit v) h same ∙ number-bits n v k
 
+-- bits of 0 above the first n add nothing
+pub number-cut : (n m : ℕ) (bits : ℕ → Bool) → ((b : ℕ) → n ≤ b → b < m → bits b ≡ false) → n ≤ m → number m bits ≡ number n bits
+unfolding number
+number-cut zero zero bits none le = refl
+number-cut (suc n) zero bits none le = absurd (omega arith)
+number-cut zero (suc m) bits none le =
+    ap₂ (λ (x y : ℕ). x * 2 + y) (number-cut zero m (λ b. bits (suc b)) (λ b l k. none (suc b) (omega arith) (omega arith)) (omega arith))
+    (ap digit (none 0 (omega arith) (omega arith)))
+number-cut (suc n) (suc m) bits none le =
+    ap (λ (x : ℕ). x * 2 + digit (bits 0))
+    (number-cut n m (λ b. bits (suc b)) (λ b l k. none (suc b) (omega arith) (omega arith)) (omega arith))
+
 -- the words of a set
 pub word-less : (elements : ℕ → Bool) (w : ℕ) → word elements w < 2 ^ 64
 unfolding word
@@ -145,6 +157,13 @@ store-outside words at zero value i h = refl
 store-outside words at (suc n) value i h =
     getD-set-other (store words at n value) (at + n) i (value n) 0 (λ e. h (omega arith) (omega arith))
     ∙ store-outside words at n value i (λ l r. h l (omega arith))
+
+-- the words behind are as they were
+pub store-behind : (words : List ℕ) (at n m : ℕ) (value : ℕ → ℕ) → at + n ≤ m → drop m (store words at n value) ≡ drop m words
+unfolding store
+store-behind words at zero m value h = refl
+store-behind words at (suc n) m value h =
+    drop-set-lt m (store words at n value) (at + n) (value n) (omega arith) ∙ store-behind words at n m value (omega arith)
 
 -- a word inside is the one stored
 pub store-inside : (words : List ℕ) (at n : ℕ) (value : ℕ → ℕ) (k : ℕ) → at + n ≤ length words → k < n
@@ -212,10 +231,16 @@ store-one words at n value q v fit l here others =
 -- a set's elements as the bits of its words, and its words as the words of its elements
 pub holds-bit : (words : List ℕ) (at w b : ℕ) → b < 64 → holds words at (w * 64 + b) ≡ bit (getD words (at + w) 0) b
 unfolding holds
-holds-bit words at w b h =
-    let q : (w * 64 + b) / 64 ≡ w = omega arith in
-    let r : (w * 64 + b) % 64 ≡ b = omega arith in
-    ap₂ (λ (x y : ℕ). bit (getD words (at + x) 0) y) q r
+holds-bit words at w b h = same (omega arith) (omega arith)
+  where
+    same : {i k b c : ℕ} → i ≡ k → b ≡ c → bit (getD words i 0) b ≡ bit (getD words k 0) c
+    same p q = ap₂ (λ (x y : ℕ). bit (getD words x 0) y) p q
+
+-- an element, whatever its word
+pub holds-at : (words : List ℕ) (at e : ℕ) → holds words at e ≡ bit (getD words (at + e / 64) 0) (e % 64)
+holds-at words at e =
+    let whole : e ≡ e / 64 * 64 + e % 64 = omega arith in
+    ap (holds words at) whole ∙ holds-bit words at (e / 64) (e % 64) (omega arith)
 
 pub word-held : (words : List ℕ) (at w : ℕ) → getD words (at + w) 0 < 2 ^ 64 → getD words (at + w) 0 ≡ word (holds words at) w
 word-held words at w h = is-word (getD words (at + w) 0) (holds words at) w h (λ b l. sym (holds-bit words at w b l))
@@ -223,12 +248,14 @@ word-held words at w h = is-word (getD words (at + w) 0) (holds words at) w h (�
 -- a set whose eight words are stored
 pub holds-stored : (words : List ℕ) (at : ℕ) (elements : ℕ → Bool) (e : ℕ) → at + 8 ≤ length words → e < 512
     → holds (store words at 8 (word elements)) at e ≡ elements e
-unfolding holds
 holds-stored words at elements e fit h =
-    ap (λ (x : ℕ). bit x (e % 64)) (store-inside words at 8 (word elements) (e / 64) fit (omega arith)) ∙ word-element elements e
+    holds-at (store words at 8 (word elements)) at e
+    ∙ ap (λ (x : ℕ). bit x (e % 64)) (store-inside words at 8 (word elements) (e / 64) fit (omega arith)) ∙ word-element elements e
 
 -- a set whose eight words stand before those stored
 pub holds-kept : (words : List ℕ) (at n : ℕ) (value : ℕ → ℕ) (a e : ℕ) → a + 8 ≤ at → e < 512
     → holds (store words at n value) a e ≡ holds words a e
-unfolding holds
-holds-kept words at n value a e h l = ap (λ (x : ℕ). bit x (e % 64)) (store-outside words at n value (a + e / 64) (omega arith))
+holds-kept words at n value a e h l =
+    holds-at (store words at n value) a e
+    ∙ ap (λ (x : ℕ). bit x (e % 64)) (store-outside words at n value (a + e / 64) (omega arith))
+    ∙ sym (holds-at words a e)

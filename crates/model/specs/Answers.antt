@@ -13,6 +13,7 @@ pub record Report : Type 0 where
   pub nodes : ℕ
   pub steps : ℕ
 
+-- number and place of a refusal: "counts 0"
 abbrev pub refusal : ℕ → ℕ → Report
 refusal n p = record { number = n; place = p; symbols = 0; nodes = 0; steps = 0 }
 

@@ -3,6 +3,7 @@ use Prim.Native.Nat.{ℕ, zero, suc, _+_, _-_, _*_}
 use mathlib.Core.List.{List}
 use lib.ListN.{getD, take, drop}
 
+-- a file as the list of its bytes
 abbrev pub Bytes : Type 0
 Bytes = List ℕ
 

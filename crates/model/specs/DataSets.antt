@@ -17,6 +17,7 @@ pub record DataSet : Type 0 where
   pub entries : Bytes
   pub members : Bytes
 
+-- the data set in the bytes d
 abbrev pub dataOf : Bytes → DataSet
 dataOf d =
     record {
@@ -80,6 +81,7 @@ module _ (P : Plan) (D : DataSet) where
   unfoldable pub entryFits : ℕ → ℕ → Bool
   entryFits m k = pick (entry m k == NONE) (totality P m == 0) (entry m k <? size D (target P m))
 
+  -- map m, entry by entry: the place is "map × 512 + element"
   unfoldable pub entriesCheck : ℕ → Outcome
   entriesCheck m = scan (λ k. require (entryFits m k) (InvalidEntry (m * 512 + k))) 0 (size D (source P m))
 
@@ -88,6 +90,7 @@ module _ (P : Plan) (D : DataSet) where
   suppliedDisjoint k =
       every (size D (suppliedRegion P k)) (λ e. every (pieces D) (λ i. every i (λ j. non (suppliedBit k i e and suppliedBit k j e))))
 
+  -- COMP: each element is in some piece
   unfoldable pub suppliedComplete : ℕ → Bool
   suppliedComplete k = every (size D (suppliedRegion P k)) (λ e. any (pieces D) (λ i. suppliedBit k i e))
 
@@ -97,6 +100,7 @@ module _ (P : Plan) (D : DataSet) where
       every (pieces D) (λ i. every (8 * pieceBytes k - size D (suppliedRegion P k))
       (λ b. non (suppliedBit k i (size D (suppliedRegion P k) + b))))
 
+  -- the declared flags, 1 disjoint, 2 complete, 3 both, and the pad bits
   unfoldable pub declarationsHold : ℕ → Bool
   declarationsHold k =
       (non (suppliedFlags P k == 1 or suppliedFlags P k == 3) or suppliedDisjoint k)

@@ -18,12 +18,13 @@ use Rattle.model.specs.declared.Refusal.the-variants.{OutputTooSmall}
 abbrev pub wordsNeeded : Plan → DataSet → ℕ
 wordsNeeded P D = nodeCount P * pieces D * 8
 
--- "evaluating takes the bytes of both, checks first, and gives 1 to 15"; Narrow: "fewer words lent than nodes × N × 8"
+-- Narrow: "fewer words lent than nodes × N × 8"
+abbrev pub outputCheck : Plan → DataSet → ℕ → Outcome
+outputCheck P D lent = require (wordsNeeded P D ≤? lent) (OutputTooSmall (wordsNeeded P D))
+
+-- "evaluating takes the bytes of both, checks first, and gives 1 to 15"
 unfoldable pub evaluationCheck : Bytes → Bytes → ℕ → Outcome
-evaluationCheck p d lent =
-    planCheck p
-    then dataCheck (planOf p) d
-    then require (wordsNeeded (planOf p) (dataOf d) ≤? lent) (OutputTooSmall (wordsNeeded (planOf p) (dataOf d)))
+evaluationCheck p d lent = planCheck p then dataCheck (planOf p) d then outputCheck (planOf p) (dataOf d) lent
 
 -- what evaluating a plan over a data set answers, where so many words are lent
 unfoldable pub evaluation : Bytes → Bytes → ℕ → Answer

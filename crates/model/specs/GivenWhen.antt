@@ -1,4 +1,5 @@
--- The table of refusals, columns "given when" and "place", as plain statements: what is so where a refusal is given.
+-- The table of refusals, columns "no.", "given when" and "place", as plain statements: what is so where a refusal of this number is given
+-- at this place.
 use Prim.Native.Nat.{ℕ, suc, _+_, _*_, _≤_, _<_}
 use mathlib.Core.Path.{_≡_}
 use mathlib.Core.Logic.{_⊎_}
@@ -7,10 +8,8 @@ use Rattle.model.specs.Bytes.{Bytes, byte, boundary, body}
 use Rattle.model.specs.Layout.{Plan, planOf, regionCount, mapCount, suppliedCount, statementCount, nodeCount, assignmentCount, stepCount, fields, source, target, totality, suppliedRegion, suppliedFlags, statementKind, assigned, stepLemma, stepX, stepY, stepP, stepQ}
 use Rattle.model.specs.LoopRelations.{HasSymbol, SymbolsBefore, SymbolRegion, NodeRegion}
 use Rattle.model.specs.PlainPlan.{SectionLength, StatementFormed, StatementAgrees, ParallelizableLoop, NodeFormed, NodeAgrees, SameNode, StepFormed, Licence, NeedsConcluded}
-use Rattle.model.specs.DataSets.{dataOf, pieces, size}
+use Rattle.model.specs.DataSets.{DataSet, dataOf, pieces, size}
 use Rattle.model.specs.PlainData.{WellFramed, EntryFits, DeclarationsHold}
-use Rattle.model.specs.declared.Refusal.{Refusal}
-use Rattle.model.specs.declared.Refusal.the-variants.{Truncated, UnknownEdition, TrailingBytes, InvalidLength, InvalidRecord, RegionMismatch, DuplicateNode, NotParallelizable, AssignmentCount, UnlicensedStep, UnmetNeed, InvalidData, InvalidEntry, InvalidPartition, OutputTooSmall}
 
 -- Stray, at section × 256 + record
 pub data RecordInvalid (P : Plan) (place : ℕ) : Type 0 where
@@ -37,28 +36,64 @@ pub data RegionsDisagree (P : Plan) (place : ℕ) : Type 0 where
       {s k : ℕ} → place ≡ 6 * 256 + k → s < statementCount P → HasSymbol P s → SymbolsBefore P s k →
       (((r : ℕ) → SymbolRegion P s r → NodeRegion P (assigned P k) r) → ⊥) → RegionsDisagree P place
 
--- what holds where checking plan p, or evaluating it over d into so many words, gives a refusal
-abbrev pub GivenWhen : Bytes → Bytes → ℕ → Refusal → Type 0
-GivenWhen p d lent (Truncated n) =
-    ((n ≡ 0) × (length p ≡ 0)) ⊎ ((k : ℕ) × (k < 7) × (n ≡ suc k) × (boundary p k ≤ length p) × (length p < boundary p (suc k)))
-GivenWhen p d lent UnknownEdition = byte p 0 ≡ 1 → ⊥
-GivenWhen p d lent (TrailingBytes at) = (at ≡ boundary p 7) × (at < length p)
-GivenWhen p d lent (InvalidLength n) = (k : ℕ) × (k < 7) × (n ≡ suc k) × (SectionLength n (length (body p k)) → ⊥)
-GivenWhen p d lent (InvalidRecord place) = RecordInvalid (planOf p) place
-GivenWhen p d lent (RegionMismatch place) = RegionsDisagree (planOf p) place
-GivenWhen p d lent (DuplicateNode j) = (j < nodeCount (planOf p)) × ((k : ℕ) × (k < j) × SameNode (planOf p) k j)
-GivenWhen p d lent (NotParallelizable f) =
-    (f < statementCount (planOf p)) × (statementKind (planOf p) f ≡ 0) × (ParallelizableLoop (planOf p) f → ⊥)
-GivenWhen p d lent (AssignmentCount n) =
-    SymbolsBefore (planOf p) (statementCount (planOf p)) n × (assignmentCount (planOf p) ≡ n → ⊥)
-GivenWhen p d lent (UnlicensedStep t) =
-    (t < stepCount (planOf p)) ×
-    (Licence (planOf p) (stepLemma (planOf p) t) (stepX (planOf p) t) (stepY (planOf p) t) (stepP (planOf p) t) (stepQ (planOf p) t) → ⊥)
-GivenWhen p d lent (UnmetNeed k) =
-    (s : ℕ) × (s < statementCount (planOf p)) × HasSymbol (planOf p) s × SymbolsBefore (planOf p) s k × (NeedsConcluded (planOf p) s → ⊥)
-GivenWhen p d lent InvalidData = WellFramed (planOf p) d → ⊥
-GivenWhen p d lent (InvalidEntry place) =
-    (m k : ℕ) × (place ≡ m * 512 + k) × (m < mapCount (planOf p)) × (k < size (dataOf d) (source (planOf p) m)) ×
-    (EntryFits (planOf p) (dataOf d) m k → ⊥)
-GivenWhen p d lent (InvalidPartition k) = (k < suppliedCount (planOf p)) × (DeclarationsHold (planOf p) (dataOf d) k → ⊥)
-GivenWhen p d lent (OutputTooSmall n) = (n ≡ nodeCount (planOf p) * pieces (dataOf d) * 8) × (lent < n)
+-- numbers 1 to 11: what a plan is refused for
+pub data PlanGivenWhen (p : Bytes) (number place : ℕ) : Type 0 where
+  -- Short: "input ends before a section does", at the section; "0 if empty"
+  empty : number ≡ 1 → place ≡ 0 → length p ≡ 0 → PlanGivenWhen p number place
+  truncated :
+      {n : ℕ} → number ≡ 1 → place ≡ suc n → n < 7 → boundary p n ≤ length p → length p < boundary p (suc n) → PlanGivenWhen p number place
+  -- Edition: "byte 0 is not 1"
+  unknown-edition : number ≡ 2 → place ≡ 0 → (byte p 0 ≡ 1 → ⊥) → PlanGivenWhen p number place
+  -- Long: "bytes after section 7", at "their offset"
+  trailing-bytes : number ≡ 3 → place ≡ boundary p 7 → boundary p 7 < length p → PlanGivenWhen p number place
+  -- Measure: "length not whole records, or count outside its limits", at the section
+  invalid-length :
+      {n : ℕ} → number ≡ 4 → place ≡ suc n → n < 7 → (SectionLength place (length (body p n)) → ⊥) → PlanGivenWhen p number place
+  -- Stray
+  invalid-record : number ≡ 5 → RecordInvalid (planOf p) place → PlanGivenWhen p number place
+  -- Mismatch
+  region-mismatch : number ≡ 6 → RegionsDisagree (planOf p) place → PlanGivenWhen p number place
+  -- Twin: "node equals an earlier one", at the record
+  duplicate-node :
+      {earlier : ℕ} → number ≡ 7 → place < nodeCount (planOf p) → earlier < place → SameNode (planOf p) earlier place →
+      PlanGivenWhen p number place
+  -- Tangled: "loop not parallelizable", at "its FOR's record"
+  not-parallelizable :
+      number ≡ 8 → place < statementCount (planOf p) → statementKind (planOf p) place ≡ 0 → (ParallelizableLoop (planOf p) place → ⊥) →
+      PlanGivenWhen p number place
+  -- Uneven: "assignments not one per symbol", at the "number of symbols"
+  assignment-count :
+      number ≡ 9 → SymbolsBefore (planOf p) (statementCount (planOf p)) place → (assignmentCount (planOf p) ≡ place → ⊥) →
+      PlanGivenWhen p number place
+  -- Unlicensed: "step not by its lemma", at the step
+  unlicensed-step :
+      number ≡ 10 → place < stepCount (planOf p) →
+      (Licence (planOf p) (stepLemma (planOf p) place) (stepX (planOf p) place) (stepY (planOf p) place) (stepP (planOf p) place)
+      (stepQ (planOf p) place) → ⊥) →
+      PlanGivenWhen p number place
+  -- Unmet: "a need no step concludes", at the symbol
+  unmet-need :
+      {s : ℕ} → number ≡ 11 → s < statementCount (planOf p) → HasSymbol (planOf p) s → SymbolsBefore (planOf p) s place →
+      (NeedsConcluded (planOf p) s → ⊥) → PlanGivenWhen p number place
+
+-- numbers 12 to 14: what a data set is refused for
+pub data DataGivenWhen (P : Plan) (d : Bytes) (number place : ℕ) : Type 0 where
+  -- Misframed: "data set empty, edition, lengths, N or sizes wrong, or bytes left over"
+  invalid-data : number ≡ 12 → place ≡ 0 → (WellFramed P d → ⊥) → DataGivenWhen P d number place
+  -- Dangling: "entry not none and at or above the target's size, or none in a total map", at "map × 512 + element"
+  invalid-entry :
+      {m k : ℕ} → number ≡ 13 → place ≡ m * 512 + k → m < mapCount P → k < size (dataOf d) (source P m) →
+      (EntryFits P (dataOf d) m k → ⊥) → DataGivenWhen P d number place
+  -- Untrue: "supplied partition breaks a declared flag or has a pad bit", at "its number"
+  invalid-partition : number ≡ 14 → place < suppliedCount P → (DeclarationsHold P (dataOf d) place → ⊥) → DataGivenWhen P d number place
+
+-- number 15: what the lent words are refused for
+pub data OutputGivenWhen (P : Plan) (D : DataSet) (lent number place : ℕ) : Type 0 where
+  -- Narrow: "fewer words lent than nodes × N × 8", at "that product"
+  output-too-small : number ≡ 15 → place ≡ nodeCount P * pieces D * 8 → lent < place → OutputGivenWhen P D lent number place
+
+-- evaluating plan p over data set d, where so many words are lent: it "gives 1 to 15"
+pub data EvaluationGivenWhen (p d : Bytes) (lent number place : ℕ) : Type 0 where
+  of-plan : PlanGivenWhen p number place → EvaluationGivenWhen p d lent number place
+  of-data : DataGivenWhen (planOf p) d number place → EvaluationGivenWhen p d lent number place
+  of-output : OutputGivenWhen (planOf p) (dataOf d) lent number place → EvaluationGivenWhen p d lent number place

@@ -18,6 +18,7 @@ pub record Plan : Type 0 where
   pub assignments : Bytes
   pub steps : Bytes
 
+-- the plan in the bytes p
 abbrev pub planOf : Bytes → Plan
 planOf p =
     record {
@@ -36,12 +37,15 @@ pub record Shape : Type 0 where
   pub fewest : ℕ
   pub most : ℕ
 
+-- a row of the table
 abbrev pub shape : ℕ → ℕ → ℕ → Shape
 shape width fewest most = record { width = width; fewest = fewest; most = most }
 
+-- "record bytes", "most" and "least 1", section by section
 unfoldable pub shapes : List Shape
 shapes = shape 1 1 16 ∷ shape 3 0 16 ∷ shape 2 0 8 ∷ shape 4 0 64 ∷ shape 4 0 48 ∷ shape 1 0 64 ∷ shape 5 0 128 ∷ []
 
+-- the row of the section that stands after n others
 unfoldable pub shapeOf : ℕ → Shape
 shapeOf n = getD shapes n (shape 1 0 0)
 

@@ -13,6 +13,7 @@ use Rattle.model.specs.declared.Conclusion.{Conclusion}
 use Rattle.model.specs.declared.Conclusion.the-variants.{Subset, Disjoint, Complete}
 use Rattle.model.specs.declared.Lemma.{Lemma}
 
+-- a row of the table
 abbrev pub row : Conclusion → Bool → Bool → Bool → Bool → Lemma
 row conclusion x y p q = record { conclusion = conclusion; x = x; y = y; p = p; q = q }
 
@@ -51,16 +52,19 @@ unfoldable pub inUse : Bool → ℕ → ℕ → Bool
 inUse true bound v = v <? bound
 inUse false bound v = v == 0
 
+-- a step of this form concludes SUB
 unfoldable pub isSubset : Conclusion → Bool
 isSubset Subset = true
 isSubset Disjoint = false
 isSubset Complete = false
 
+-- a step of this form concludes DISJ
 unfoldable pub isDisjoint : Conclusion → Bool
 isDisjoint Subset = false
 isDisjoint Disjoint = true
 isDisjoint Complete = false
 
+-- a step of this form concludes COMP
 unfoldable pub isComplete : Conclusion → Bool
 isComplete Subset = false
 isComplete Disjoint = false
@@ -109,6 +113,7 @@ module _ (P : Plan) where
       ∷ (λ x y p q. nodeKind P x == PREIMAGE and totality P (nodeB P x) == 1 and concludesComplete p (nodeA P x))
       ∷ []
 
+  -- lemma l is licensed for the nodes x and y and the steps p and q
   unfoldable pub licence : ℕ → ℕ → ℕ → ℕ → ℕ → Bool
   licence l x y p q = getD licences (l - 1) (λ x y p q. false) x y p q
 
@@ -125,5 +130,6 @@ module _ (P : Plan) where
   unfoldable pub stepLicensed : ℕ → Bool
   stepLicensed t = licence (stepLemma P t) (stepX P t) (stepY P t) (stepP P t) (stepQ P t)
 
+  -- "at each step 5, then 10"
   unfoldable pub stepCheck : ℕ → Outcome
   stepCheck t = require (stepFormed t) (InvalidRecord (7 * 256 + t)) then require (stepLicensed t) (UnlicensedStep t)

@@ -17,11 +17,14 @@ pub mod Words
 pub mod DataSets
 pub mod Membership
 pub mod Evaluation
-pub mod Touches
-pub mod Legal
 pub mod LoopRelations
 pub mod PlainPlan
 pub mod PlainData
+pub mod PlainSets
+pub mod Touches
+pub mod Legal
 pub mod GivenWhen
+pub mod RefusalOrder
 pub mod Promises
 pub mod Packed
+pub mod Encoding

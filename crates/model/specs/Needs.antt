@@ -24,6 +24,7 @@ module _ (P : Plan) where
   symbol zero = 0
   symbol (suc s) = pick (hasSymbol s) (suc (symbol s)) (symbol s)
 
+  -- how many symbols there are
   abbrev pub symbolCount : ℕ
   symbolCount = symbol (statementCount P)
 
@@ -64,6 +65,7 @@ module _ (P : Plan) where
   unfoldable pub bound : ℕ → ℕ
   bound s = course (nodeCount P) (λ t earlier. boundBy (kind P t) t earlier) s
 
+  -- the bound of the variable that statement s works on
   abbrev pub operandBound : ℕ → ℕ
   operandBound s = bound (operandDefinition P s)
 

@@ -33,18 +33,27 @@ abbrev pub PREIMAGE : ℕ
 PREIMAGE = 6
 
 module _ (P : Plan) where
-  -- Stray, by kind: "Node operands are earlier nodes"; supplied, region and map numbers are there; unused bytes are 0
+  -- "Node operands are earlier nodes": kinds 2 to 4 have two of them
+  abbrev pub operandsEarlier : ℕ → Bool
+  operandsEarlier j = nodeA P j <? j and nodeB P j <? j
+
+  -- image and preimage have one, and a map
+  abbrev pub operandAndMap : ℕ → Bool
+  operandAndMap j = nodeA P j <? j and nodeB P j <? mapCount P
+
+  -- Stray, by kind: supplied, region and map numbers are there, operands are earlier; unused bytes are 0
   unfoldable pub nodeFormedRows : List (ℕ → Bool)
   nodeFormedRows =
       (λ j. nodeA P j <? suppliedCount P and nodeB P j == 0)
       ∷ (λ j. nodeA P j <? regionCount P and nodeB P j == 0)
-      ∷ (λ j. nodeA P j <? j and nodeB P j <? j)
-      ∷ (λ j. nodeA P j <? j and nodeB P j <? j)
-      ∷ (λ j. nodeA P j <? j and nodeB P j <? j)
-      ∷ (λ j. nodeA P j <? j and nodeB P j <? mapCount P)
-      ∷ (λ j. nodeA P j <? j and nodeB P j <? mapCount P)
+      ∷ operandsEarlier
+      ∷ operandsEarlier
+      ∷ operandsEarlier
+      ∷ operandAndMap
+      ∷ operandAndMap
       ∷ []
 
+  -- a record of section 5 by its kind: an unknown kind is Stray
   unfoldable pub nodeFormed : ℕ → Bool
   nodeFormed j = nodeUnused P j == 0 and getD nodeFormedRows (nodeKind P j) (λ k. false) j
 
@@ -60,24 +69,31 @@ module _ (P : Plan) where
       ∷ (λ a b earlier. source P b)
       ∷ []
 
+  -- the region of node j, from those of the nodes before it
   unfoldable pub nodeRegionStep : ℕ → (ℕ → ℕ) → ℕ
   nodeRegionStep j earlier = getD nodeRegionRows (nodeKind P j) (λ a b t. 0) (nodeA P j) (nodeB P j) earlier
 
+  -- the region of node j
   unfoldable pub nodeRegion : ℕ → ℕ
   nodeRegion j = course 0 nodeRegionStep j
 
-  -- Mismatch, by kind: "Kinds 2 to 4 need one region. Image needs a of the map's source ..; preimage the reverse"
+  -- "Kinds 2 to 4 need one region"
+  abbrev pub operandsOfOneRegion : ℕ → Bool
+  operandsOfOneRegion j = nodeRegion (nodeA P j) == nodeRegion (nodeB P j)
+
+  -- Mismatch, by kind: "Image needs a of the map's source ..; preimage the reverse"
   unfoldable pub nodeAgreesRows : List (ℕ → Bool)
   nodeAgreesRows =
       (λ j. true)
       ∷ (λ j. true)
-      ∷ (λ j. nodeRegion (nodeA P j) == nodeRegion (nodeB P j))
-      ∷ (λ j. nodeRegion (nodeA P j) == nodeRegion (nodeB P j))
-      ∷ (λ j. nodeRegion (nodeA P j) == nodeRegion (nodeB P j))
+      ∷ operandsOfOneRegion
+      ∷ operandsOfOneRegion
+      ∷ operandsOfOneRegion
       ∷ (λ j. nodeRegion (nodeA P j) == source P (nodeB P j))
       ∷ (λ j. nodeRegion (nodeA P j) == target P (nodeB P j))
       ∷ []
 
+  -- the regions of node j and of its operands agree
   unfoldable pub nodeAgrees : ℕ → Bool
   nodeAgrees j = getD nodeAgreesRows (nodeKind P j) (λ k. false) j
 
@@ -86,9 +102,11 @@ module _ (P : Plan) where
   sameNode j k =
       nodeKind P k == nodeKind P j and nodeA P k == nodeA P j and nodeB P k == nodeB P j and nodeUnused P k == nodeUnused P j
 
+  -- node j "equals an earlier one"
   unfoldable pub duplicateNode : ℕ → Bool
   duplicateNode j = any j (sameNode j)
 
+  -- "at each 5, 6, 7"
   unfoldable pub nodeCheck : ℕ → Outcome
   nodeCheck j =
       require (nodeFormed j) (InvalidRecord (5 * 256 + j))

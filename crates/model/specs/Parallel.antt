@@ -10,18 +10,21 @@ use Rattle.model.specs.declared.Refusal.the-variants.{NotParallelizable}
 use Rattle.model.specs.declared.Access.{Access}
 use Rattle.model.specs.declared.Access.the-variants.{Nothing, Reads, Writes, Reduces}
 
+-- an access that reads
 unfoldable pub isRead : Access → Bool
 isRead Nothing = false
 isRead Reads = true
 isRead Writes = false
 isRead Reduces = false
 
+-- an access that writes
 unfoldable pub isWrite : Access → Bool
 isWrite Nothing = false
 isWrite Reads = false
 isWrite Writes = true
 isWrite Reduces = false
 
+-- an access that reduces
 unfoldable pub isReduce : Access → Bool
 isReduce Nothing = false
 isReduce Reads = false
@@ -29,12 +32,15 @@ isReduce Writes = false
 isReduce Reduces = true
 
 module _ (P : Plan) where
+  -- statement s reads: LOAD or READ
   unfoldable pub reads : ℕ → Bool
   reads s = isRead (accessOf (kind P s))
 
+  -- statement s writes: WRITE
   unfoldable pub writes : ℕ → Bool
   writes s = isWrite (accessOf (kind P s))
 
+  -- statement s reduces: REDUCE
   unfoldable pub reduces : ℕ → Bool
   reduces s = isReduce (accessOf (kind P s))
 

@@ -12,6 +12,7 @@ Partition = ℕ → ℕ → Bool
 abbrev pub Map : Type 0
 Map = ℕ → ℕ → Bool
 
+-- no piece holds an element
 abbrev pub empty : Partition
 empty i e = false
 

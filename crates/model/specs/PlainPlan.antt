@@ -195,16 +195,16 @@ pub record WellFormed (p : Bytes) : Type 0 where
       ((r : ℕ) → SymbolRegion (planOf p) s r → NodeRegion (planOf p) (assigned (planOf p) k) r)
   pub steps : (t : ℕ) → t < stepCount (planOf p) → StepFormed (planOf p) t
 
--- "its loops are parallelizable"
+-- demand 2: its loops are parallelizable
 abbrev pub Parallelizable : Bytes → Type 0
 Parallelizable p = (f : ℕ) → f < statementCount (planOf p) → statementKind (planOf p) f ≡ 0 → ParallelizableLoop (planOf p) f
 
--- "each lemma step is licensed"
+-- demand 2: each lemma step is licensed
 abbrev pub Licensed : Bytes → Type 0
 Licensed p =
     (t : ℕ) → t < stepCount (planOf p) →
     Licence (planOf p) (stepLemma (planOf p) t) (stepX (planOf p) t) (stepY (planOf p) t) (stepP (planOf p) t) (stepQ (planOf p) t)
 
--- "each need inferred from the loops is concluded by a step"
+-- demand 2: each need inferred from the loops is concluded by a step
 abbrev pub Concluded : Bytes → Type 0
 Concluded p = (s : ℕ) → s < statementCount (planOf p) → NeedsConcluded (planOf p) s

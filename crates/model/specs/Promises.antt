@@ -4,7 +4,8 @@ use mathlib.Core.Path.{_≡_}
 use mathlib.Core.Logic.{_↔_}
 use mathlib.Core.List.{List}
 use mathlib.Core.Bool.{false}
-use lib.ListN.{length}
+use lib.ListN.{length, drop}
+use Rattle.model.specs.Tests.{Is}
 use Rattle.model.specs.Answers.{report}
 use Rattle.model.specs.Bytes.{Bytes, body}
 use Rattle.model.specs.Layout.{planOf, statementCount, nodeCount}
@@ -16,9 +17,14 @@ use Rattle.model.specs.Words.{holds}
 use Rattle.model.specs.Evaluation.{evaluation, wordsAfter}
 use Rattle.model.specs.LoopRelations.{SymbolsBefore}
 use Rattle.model.specs.PlainPlan.{WellFormed, Parallelizable, Licensed, Concluded}
+use Rattle.model.specs.PlainData.{Fits}
+use Rattle.model.specs.GivenWhen.{PlanGivenWhen, EvaluationGivenWhen}
+use Rattle.model.specs.RefusalOrder.{turn, Earlier}
+use Rattle.model.specs.PlainSets.{OperatorSets}
 use Rattle.model.specs.Legal.{Legal}
+use Rattle.model.specs.declared.Refusal.{Refusal}
 use Rattle.model.specs.declared.Answer.{Answer}
-use Rattle.model.specs.declared.Answer.the-variants.{Accepted}
+use Rattle.model.specs.declared.Answer.the-variants.{Accepted, Refused}
 
 -- an answer is an acceptance
 abbrev pub Accepts : Answer → Type 0
@@ -28,13 +34,19 @@ Accepts r = (symbols nodes steps : ℕ) × (r ≡ Accepted symbols nodes steps)
 pub record CheckPromise (p : Bytes) (r : Answer) : Type 0 where
   -- number, place and counts are the verdict's
   pub answer : report r ≡ report (verdict p)
-  -- demand 2: "A plan is accepted EXACTLY when it reads by the layout, its loops are parallelizable, each lemma step is licensed, and each
-  -- need inferred from the loops is concluded by a step"
+  -- demand 2: a plan is accepted exactly when it reads by the layout, its loops are parallelizable, each lemma step is licensed, and each
+  -- need inferred from the loops is concluded by a step
   pub exactly : Accepts r ↔ (WellFormed p × Parallelizable p × Licensed p × Concluded p)
   -- the counts of an acceptance: symbols are the FORs and accesses, nodes and steps are records
   pub counts :
       (symbols nodes steps : ℕ) → r ≡ Accepted symbols nodes steps →
       SymbolsBefore (planOf p) (statementCount (planOf p)) symbols × (nodes ≡ length (body p 4) / 4) × (steps ≡ length (body p 6) / 5)
+  -- a refusal holds as the table says: its number is "given when" this is so at its place
+  pub refused : (q : Refusal) → r ≡ Refused q → PlanGivenWhen p (report r .number) (report r .place)
+  -- "The first met is given": nothing that is earlier in the order is so
+  pub first :
+      (q : Refusal) → r ≡ Refused q → (number place : ℕ) → Earlier (turn number place) (turn (report r .number) (report r .place)) →
+      PlanGivenWhen p number place → ⊥
 
 -- evaluating plan p over data set d into words that held `old` answers r and leaves `new`
 pub record EvaluationPromise (p d : Bytes) (old new : List ℕ) (r : Answer) : Type 0 where
@@ -42,10 +54,31 @@ pub record EvaluationPromise (p d : Bytes) (old new : List ℕ) (r : Answer) : T
   pub answer : report r ≡ report (evaluation p d (length old))
   -- the final words, every one: the old ones after a refusal, and past the nodes' words
   pub words : new ≡ wordsAfter p d old r
-  -- demand 2: "Evaluated subregions are the sets the published operators define, no more and no less"
+  -- acceptance "is due for each plan that demand 2 accepts, each data set that fits it and words enough", and for no other
+  pub exactly :
+      Accepts r ↔
+      (WellFormed p × Parallelizable p × Licensed p × Concluded p × Fits (planOf p) d ×
+      (nodeCount (planOf p) * pieces (dataOf d) * 8 ≤ length old))
+  -- "Refusal carries .. output words untouched"
+  pub untouched : (q : Refusal) → r ≡ Refused q → new ≡ old
+  -- "Later words of the slice keep what they held", and the slice is as long as before
+  pub later :
+      Accepts r →
+      (length new ≡ length old)
+      × (drop (nodeCount (planOf p) * pieces (dataOf d) * 8) new ≡ drop (nodeCount (planOf p) * pieces (dataOf d) * 8) old)
+  -- a refusal holds as the table says
+  pub refused : (q : Refusal) → r ≡ Refused q → EvaluationGivenWhen p d (length old) (report r .number) (report r .place)
+  -- "The first met is given"
+  pub first :
+      (q : Refusal) → r ≡ Refused q → (number place : ℕ) → Earlier (turn number place) (turn (report r .number) (report r .place)) →
+      EvaluationGivenWhen p d (length old) number place → ⊥
+  -- demand 2: evaluated subregions are the sets that the published operators define, no more and no less
   pub sets :
       Accepts r → (j i e : ℕ) → j < nodeCount (planOf p) → i < pieces (dataOf d) → e < 512 →
       holds new ((j * pieces (dataOf d) + i) * 8) e ≡ member (planOf p) (dataOf d) j i e
+  -- the same, in the plain reading of the operators: each element of each piece is there exactly when its node's operator puts it there
+  pub operator-sets :
+      Accepts r → OperatorSets (planOf p) (dataOf d) (λ j i e. Is (holds new ((j * pieces (dataOf d) + i) * 8) e))
   -- "Bits at or above the size are 0"
   pub above-size :
       Accepts r → (j i e : ℕ) → j < nodeCount (planOf p) → i < pieces (dataOf d) → size (dataOf d) (nodeRegion (planOf p) j) ≤ e → e < 512 →

@@ -18,7 +18,7 @@ use Rattle.model.specs.declared.Access.the-variants.{Nothing, Reads, Wri
 unfoldable pub kindOf : ℕ → StatementKind
 kindOf k = getD (For ∷ Load ∷ Call ∷ Copy ∷ Read ∷ Write ∷ Reduce ∷ []) k Unknown
 
--- "Kind 0 FOR opens a loop"
+-- "Kind 0 FOR .. opens a loop"
 unfoldable pub opensLoop : StatementKind → Bool
 opensLoop For = true
 opensLoop Load = false
@@ -51,6 +51,7 @@ accessOf Write = Writes
 accessOf Reduce = Reduces
 accessOf Unknown = Nothing
 
+-- all but `Nothing` are accesses
 unfoldable pub isAccess : Access → Bool
 isAccess Nothing = false
 isAccess Reads = true
@@ -58,15 +59,19 @@ isAccess Writes = true
 isAccess Reduces = true
 
 module _ (P : Plan) where
+  -- the kind of statement s
   unfoldable pub kind : ℕ → StatementKind
   kind s = kindOf (statementKind P s)
 
+  -- statement s opens a loop
   unfoldable pub opens : ℕ → Bool
   opens s = opensLoop (kind s)
 
+  -- statement s defines a variable
   unfoldable pub defines : ℕ → Bool
   defines s = definesVariable (kind s)
 
+  -- statement s is an access
   unfoldable pub accesses : ℕ → Bool
   accesses s = isAccess (accessOf (kind s))
 
@@ -99,6 +104,7 @@ module _ (P : Plan) where
   operandBy Reduce s = statementA P s
   operandBy Unknown s = 0
 
+  -- the number of the variable that statement s works on
   unfoldable pub operand : ℕ → ℕ
   operand s = operandBy (kind s) s
 
@@ -159,6 +165,7 @@ module _ (P : Plan) where
       statementA P s <? variables s and statementB P s <? fields P (operandRegion s) and statementC P s <? 4
   statementFormedBy Unknown s = false
 
+  -- a record of section 4 by its kind
   unfoldable pub statementFormed : ℕ → Bool
   statementFormed s = statementFormedBy (kind s) s
 
@@ -173,9 +180,11 @@ module _ (P : Plan) where
   statementAgreesBy Reduce s = true
   statementAgreesBy Unknown s = true
 
+  -- the regions of statement s agree
   unfoldable pub statementAgrees : ℕ → Bool
   statementAgrees s = statementAgreesBy (kind s) s
 
+  -- "at each 5, 6"
   unfoldable pub statementCheck : ℕ → Outcome
   statementCheck s =
       require (statementFormed s) (InvalidRecord (4 * 256 + s)) then require (statementAgrees s) (RegionMismatch (4 * 256 + s))

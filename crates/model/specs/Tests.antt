@@ -9,24 +9,31 @@ infix 50 _<?_
 infix 50 _≤?_
 infixr 40 _and_
 infixr 35 _or_
+-- the test passes
 abbrev pub Is : Bool → Type 0
 Is b = b ≡ true
 
+-- both
 unfoldable pub _and_ : Bool → Bool → Bool
 a and b = a && b
 
+-- one of the two
 unfoldable pub _or_ : Bool → Bool → Bool
 a or b = a || b
 
+-- not
 unfoldable pub non : Bool → Bool
 non a = not a
 
+-- equal
 unfoldable pub _==_ : ℕ → ℕ → Bool
 a == b = eqb a b
 
+-- less
 unfoldable pub _<?_ : ℕ → ℕ → Bool
 a <? b = ltb a b
 
+-- less or equal
 unfoldable pub _≤?_ : ℕ → ℕ → Bool
 a ≤? b = leb a b
 

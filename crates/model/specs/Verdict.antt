@@ -14,6 +14,7 @@ use Rattle.model.specs.declared.Answer.the-variants.{Accepted}
 use Rattle.model.specs.declared.Outcome.{Outcome}
 
 module _ (P : Plan) where
+  -- "records by section, at each 5, 6, 7; 8 after section 4; 9 before section 6; at each step 5, then 10; 11 by symbol"
   unfoldable pub recordsCheck : Outcome
   recordsCheck =
       scan (regionCheck P) 0 (regionCount P)
@@ -31,6 +32,7 @@ module _ (P : Plan) where
   abbrev pub accepted : Answer
   accepted = Accepted (symbolCount P) (nodeCount P) (stepCount P)
 
+-- the layout, then the records
 unfoldable pub planCheck : Bytes → Outcome
 planCheck p = layoutCheck p then recordsCheck (planOf p)
 

@@ -13,6 +13,7 @@ bit w b = w / 2 ^ b % 2 == 1
 unfoldable pub holds : List ℕ → ℕ → ℕ → Bool
 holds words at e = bit (getD words (at + e / 64) 0) (e % 64)
 
+-- a bit as a number
 abbrev pub digit : Bool → ℕ
 digit true = 1
 digit false = 0

@@ -28,7 +28,7 @@ loop-again c =
       omega arith,
       simp length-set (l .inv .1),
       λ P D S. entry-next (l .table) (l .j) _ (λ k n. n ≡ size D (nodeRegion P k)) (omega arith) (l .inv .2 P D S)
-          (c .node-size .ensures P D S (rw (← S .nodes-are) (c .before .before .loop-test .taken)) (l .inv .2 P D S)),
+          (c .node-size .ensures P D S (rw (← S .nodes-are) (omega (arith, c .before .before .loop-test .taken))) (λ k h. l .inv .2 P D S k (omega arith))),
     )
 
 returns : tie.Need-returns Inv-loop μ-loop

@@ -1,0 +1,36 @@
+-- The definitions of a verdict and of an evaluation, for proofs by computation: `unfolding definitions` opens them all. Assumes nothing.
+use Rattle.model.specs.Tests.{_and_, _or_, non, _==_, _<?_, _≤?_, any, every, pick, first}
+use Rattle.model.specs.Answers.{report, refusalReport}
+use Rattle.model.specs.Outcomes.{require, _then_, scan, conclude}
+use Rattle.model.specs.Bytes.{boundary, body}
+use Rattle.model.specs.Recursion.{below, levels, course}
+use Rattle.model.specs.Partitions.{union, intersection, difference, image, preimage, contiguous, equalStart}
+use Rattle.model.specs.Layout.{shapes, shapeOf, sectionCheck, layoutCheck}
+use Rattle.model.specs.Statements.{kindOf, opensLoop, definesVariable, accessOf, isAccess, kind, opens, defines, accesses, loopBefore, variables, definition, operandBy, operand, operandDefinition, regionBy, variableRegion, centeredBy, centered, statementFormedBy, statementFormed, statementAgreesBy, statementAgrees, statementCheck}
+use Rattle.model.specs.Parallel.{isRead, isWrite, isReduce, reads, writes, reduces, uncentered, accessOfLoop, sameTarget, conflicts, parallelizable, loopCheck, reducesThroughPointer}
+use Rattle.model.specs.Nodes.{nodeFormedRows, nodeFormed, nodeRegionRows, nodeRegionStep, nodeRegion, nodeAgreesRows, nodeAgrees, sameNode, duplicateNode, nodeCheck}
+use Rattle.model.specs.Lemmas.{lemmas, lemmaRow, inUse, isSubset, isDisjoint, isComplete, concludesSubset, concludesDisjoint, concludesComplete, operandOf, licences, licence, stepFormed, stepLicensed, stepCheck}
+use Rattle.model.specs.Needs.{hasSymbol, symbol, symbolRegion, assignmentCountCheck, assignmentCheck, imageNode, boundBy, bound, loopNeedsMet, accessNeedMet, needCheck}
+use Rattle.model.specs.Declarations.{regionCheck, mapCheck, suppliedCheck}
+use Rattle.model.specs.Verdict.{recordsCheck, planCheck, verdict}
+use Rattle.model.specs.DataSets.{size, entryStart, entry, low, past, mapsTo, pieceBytes, memberStart, suppliedBit, supplied, entryFits, entriesCheck, suppliedDisjoint, suppliedComplete, padBitsClear, declarationsHold, wellFramed, dataCheck}
+use Rattle.model.specs.Membership.{equal, operators, nodeSets, member}
+use Rattle.model.specs.Words.{bit, holds, number, word, store}
+use Rattle.model.specs.Evaluation.{evaluationCheck, evaluation, nodeWord, filledWords}
+
+unfoldable pub definitions : Unit {0}
+unfolding
+    report refusalReport verdict planCheck layoutCheck sectionCheck shapeOf shapes boundary body conclude require _then_ scan
+    recordsCheck regionCheck mapCheck suppliedCheck statementCheck loopCheck nodeCheck assignmentCountCheck assignmentCheck stepCheck needCheck
+    _and_ _or_ non _==_ _<?_ _≤?_ any every pick first below levels course
+    kindOf opensLoop definesVariable accessOf isAccess kind opens defines accesses loopBefore variables definition operandBy operand
+    operandDefinition regionBy variableRegion centeredBy centered statementFormedBy statementFormed statementAgreesBy statementAgrees
+    isRead isWrite isReduce reads writes reduces uncentered accessOfLoop sameTarget conflicts parallelizable reducesThroughPointer
+    nodeFormedRows nodeFormed nodeRegionRows nodeRegionStep nodeRegion nodeAgreesRows nodeAgrees sameNode duplicateNode
+    lemmas lemmaRow inUse isSubset isDisjoint isComplete concludesSubset concludesDisjoint concludesComplete operandOf licences licence
+    stepFormed stepLicensed hasSymbol symbol symbolRegion imageNode boundBy bound loopNeedsMet accessNeedMet
+    union intersection difference image preimage contiguous equalStart
+    size entryStart entry low past mapsTo pieceBytes memberStart suppliedBit supplied equal operators nodeSets member
+    entryFits entriesCheck suppliedDisjoint suppliedComplete padBitsClear declarationsHold wellFramed dataCheck
+    evaluationCheck evaluation nodeWord filledWords bit holds number word store
+definitions = tt
