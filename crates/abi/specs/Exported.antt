@@ -2,26 +2,21 @@
 use Prim.Native.Nat.{ℕ}
 use mathlib.Core.Path.{_≡_}
 use mathlib.Core.List.{List}
-use Rattle.model.specs.Answers.{report}
 use Rattle.model.specs.Bytes.{Bytes}
-use Rattle.model.specs.Packed.{packed, unpacked}
+use Rattle.model.specs.Packed.{Packing, packedBy, unpackedBy, answerPacking}
 use Rattle.model.specs.Promises.{CheckPromise, EvaluationPromise}
-use Rattle.model.specs.declared.Answer.{Answer}
 
--- the number is that of an answer, and a caller reads from it what the answer tells
-pub record Packs (result : ℕ) (answer : Answer) : Type 0 where
-  pub packs : result ≡ packed answer
-  pub reads : unpacked result ≡ report answer
+-- the number returned is that of an answer which keeps the entry point's whole promise, and a caller reads from it what the answer reports
+pub record Exported {A R : Type 0} (packing : Packing A R) (Promise : A → Type 0) (result : ℕ) : Type 0 where
+  pub answer : A
+  pub packs : result ≡ packedBy packing answer
+  pub reads : unpackedBy packing result ≡ packing .report answer
+  pub promise : Promise answer
 
--- checking the plan's bytes p returns the number of an answer that keeps the whole promise of `check`
-pub record ExportedCheck (p : Bytes) (result : ℕ) : Type 0 where
-  pub answer : Answer
-  pub packing : Packs result answer
-  pub promise : CheckPromise p answer
+-- checking the plan's bytes p: the promise of `check`
+abbrev pub ExportedCheck : Bytes → ℕ → Type 0
+ExportedCheck p = Exported answerPacking (CheckPromise p)
 
--- evaluating plan p over data set d into words that held `old` returns the number of an answer that keeps, with the words `new` that it
--- leaves, the whole promise of `evaluate`
-pub record ExportedEvaluation (p d : Bytes) (old new : List ℕ) (result : ℕ) : Type 0 where
-  pub answer : Answer
-  pub packing : Packs result answer
-  pub promise : EvaluationPromise p d old new answer
+-- evaluating plan p over data set d into words that held `old`: the promise of `evaluate`, with the words `new` that it leaves
+abbrev pub ExportedEvaluation : Bytes → Bytes → List ℕ → List ℕ → ℕ → Type 0
+ExportedEvaluation p d old new = Exported answerPacking (EvaluationPromise p d old new)

@@ -1,7 +1,8 @@
 // The entry points for C and Rust: an answer comes as one number.
 use model::Answer;
+use model::Refusal;
 ghost use mathlib.Core.Path.{_≡_};
-ghost use Rattle.model.specs.Packed.{packed};
+ghost use Rattle.model.specs.Packed.{tagged, pack as packedTag, refusalTag, packed};
 ghost use Rattle.abi.specs.Exported.{ExportedCheck, ExportedEvaluation};
 
 // Checks a plan.
@@ -10,7 +11,7 @@ pub extern "C" fn mavisglen_check(plan: &[u8]) -> u64
     ensures { λ r. ⌜ ExportedCheck (now (plan .entry)) r ⌝ }
 {
     let answer = plan::check(plan);
-    pack(answer)
+    pack_answer(answer)
 }
 
 // Evaluates a plan over a data set into the lent words.
@@ -19,19 +20,36 @@ pub extern "C" fn mavisglen_evaluate(plan: &[u8], data: &[u8], words: &mut [u64]
     ensures { λ r. ⌜ ExportedEvaluation (now (plan .entry)) (now («data» .entry)) (now (words .entry)) (now (words .exit)) r ⌝ }
 {
     let answer = evaluate::evaluate(plan, data, words);
-    pack(answer)
+    pack_answer(answer)
 }
 
-// The number of an answer: 0 and the counts above it, or a refusal's number and the place above it.
-fn pack(answer: Answer) -> u64
+// An acceptance: number 0, and the counts in 8 bits each.
+fn pack_answer(answer: Answer) -> u64
     ensures { λ r. ⌜ r ≡ packed answer ⌝ }
 {
-    let report = answers::report_answer(answer);
-    if report.number == 0 {
-        ((report.symbols % 256 << 8)
-            + (report.nodes % 256 << 16)
-            + (report.steps % 256 << 24)) as u64
-    } else {
-        (report.number % 256 + (report.place << 8)) as u64
+    match answer {
+        Answer::Accepted {
+            symbols,
+            nodes,
+            steps,
+        } => pack(0, symbols % 256 + (nodes % 256 << 8) + (steps % 256 << 16)),
+        Answer::Refused(refusal) => pack_refusal(refusal),
     }
+}
+
+// A refusal: its number, and its place.
+fn pack_refusal(refusal: Refusal) -> u64
+    ensures { λ r. ⌜ r ≡ packedTag (refusalTag refusal) ⌝ }
+{
+    pack(
+        answers::refusal_number(refusal),
+        answers::refusal_place(refusal),
+    )
+}
+
+// A number in the low 8 bits, and the value that goes with it above them.
+fn pack(number: usize, value: usize) -> u64
+    ensures { λ r. ⌜ r ≡ packedTag (tagged number value) ⌝ }
+{
+    (number % 256 + (value << 8)) as u64
 }

@@ -1,22 +1,13 @@
 // What an answer reports, as numbers.
 use model::Answer;
 use model::Refusal;
+use model::Report;
 ghost use mathlib.Core.Path.{_≡_};
-ghost use Rattle.model.specs.Answers.{report, refusalReport, refusal as refusalOf};
-ghost use Rattle.answers.specs.Reports.{asStruct};
+ghost use Rattle.model.specs.Answers.{report, refusalReport};
 
-// Number and place of a refusal, 0 and 0 on acceptance; the counts of an acceptance, 0 on refusal.
-pub struct Report {
-    pub number: usize,
-    pub place: usize,
-    pub symbols: usize,
-    pub nodes: usize,
-    pub steps: usize,
-}
-
-// What an answer reports.
+// What an answer reports: on refusal "counts 0".
 pub fn report_answer(answer: Answer) -> Report
-    ensures { λ r. ⌜ r ≡ asStruct (report answer) ⌝ }
+    ensures { λ r. ⌜ r ≡ report answer ⌝ }
 {
     match answer {
         Answer::Accepted {
@@ -30,42 +21,58 @@ pub fn report_answer(answer: Answer) -> Report
             nodes,
             steps,
         },
-        Answer::Refused(refusal) => report_refusal(refusal),
+        Answer::Refused(refusal) => Report {
+            number: refusal_number(refusal),
+            place: refusal_place(refusal),
+            symbols: 0,
+            nodes: 0,
+            steps: 0,
+        },
     }
 }
 
-// A refusal's number and place: the table of refusals.
-pub fn report_refusal(refusal: Refusal) -> Report
-    ensures { λ r. ⌜ r ≡ asStruct (refusalReport refusal) ⌝ }
+// The table of refusals: column "no.".
+pub fn refusal_number(refusal: Refusal) -> usize
+    ensures { λ r. ⌜ r ≡ refusalReport refusal .number ⌝ }
 {
     match refusal {
-        Refusal::Truncated(section) => refused(1, section),
-        Refusal::UnknownEdition => refused(2, 0),
-        Refusal::TrailingBytes(offset) => refused(3, offset),
-        Refusal::InvalidLength(section) => refused(4, section),
-        Refusal::InvalidRecord(place) => refused(5, place),
-        Refusal::RegionMismatch(place) => refused(6, place),
-        Refusal::DuplicateNode(node) => refused(7, node),
-        Refusal::NotParallelizable(statement) => refused(8, statement),
-        Refusal::AssignmentCount(symbols) => refused(9, symbols),
-        Refusal::UnlicensedStep(step) => refused(10, step),
-        Refusal::UnmetNeed(symbol) => refused(11, symbol),
-        Refusal::InvalidData => refused(12, 0),
-        Refusal::InvalidEntry(place) => refused(13, place),
-        Refusal::InvalidPartition(partition) => refused(14, partition),
-        Refusal::OutputTooSmall(words) => refused(15, words),
+        Refusal::Truncated(_) => 1,
+        Refusal::UnknownEdition => 2,
+        Refusal::TrailingBytes(_) => 3,
+        Refusal::InvalidLength(_) => 4,
+        Refusal::InvalidRecord(_) => 5,
+        Refusal::RegionMismatch(_) => 6,
+        Refusal::DuplicateNode(_) => 7,
+        Refusal::NotParallelizable(_) => 8,
+        Refusal::AssignmentCount(_) => 9,
+        Refusal::UnlicensedStep(_) => 10,
+        Refusal::UnmetNeed(_) => 11,
+        Refusal::InvalidData => 12,
+        Refusal::InvalidEntry(_) => 13,
+        Refusal::InvalidPartition(_) => 14,
+        Refusal::OutputTooSmall(_) => 15,
     }
 }
 
-// A refusal: "counts 0".
-fn refused(number: usize, place: usize) -> Report
-    ensures { λ r. ⌜ r ≡ asStruct (refusalOf number place) ⌝ }
+// The table of refusals: column "place".
+pub fn refusal_place(refusal: Refusal) -> usize
+    ensures { λ r. ⌜ r ≡ refusalReport refusal .place ⌝ }
 {
-    Report {
-        number,
-        place,
-        symbols: 0,
-        nodes: 0,
-        steps: 0,
+    match refusal {
+        Refusal::Truncated(section) => section,
+        Refusal::UnknownEdition => 0,
+        Refusal::TrailingBytes(offset) => offset,
+        Refusal::InvalidLength(section) => section,
+        Refusal::InvalidRecord(place) => place,
+        Refusal::RegionMismatch(place) => place,
+        Refusal::DuplicateNode(node) => node,
+        Refusal::NotParallelizable(statement) => statement,
+        Refusal::AssignmentCount(symbols) => symbols,
+        Refusal::UnlicensedStep(step) => step,
+        Refusal::UnmetNeed(symbol) => symbol,
+        Refusal::InvalidData => 0,
+        Refusal::InvalidEntry(place) => place,
+        Refusal::InvalidPartition(partition) => partition,
+        Refusal::OutputTooSmall(words) => words,
     }
 }

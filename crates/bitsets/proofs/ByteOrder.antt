@@ -15,7 +15,7 @@ use Rattle.model.specs.Words.{bit, digit, number}
 use Rattle.model.proofs.Tests.{both, either, same, less, fails, every-at, pick-true, pick-false}
 use Rattle.model.proofs.Words.{is-number, bit-number, number-same}
 use Rattle.bitsets.specs.Elements.{twoBytes, bytesBits, exchanged, exchangedBits, LowerPlaces, reversedBits}
-use Rattle.bitsets.proofs.Bits.{kept, false-or, and-false, and-true, or-false, bit-and, bit-or, bit-down, bit-up, bit-up-low, bit-low, bit-lower, bit-upper}
+use Rattle.bitsets.proofs.Bits.{kept, false-or, and-false, and-true, or-false, bit-and, bit-or, bit-down, bit-up, bit-up-low, bit-low, bit-lower, bit-upper, shifted-or}
 
 -- n bytes as a number, the first lowest
 unfoldable pub joined : ℕ → (ℕ → ℕ) → ℕ
@@ -33,19 +33,21 @@ joined-less zero bytes h = omega arith
 joined-less (suc n) bytes h = rw (suc-mul, pow-add) (digits-lt (joined-less n (λ i. bytes (suc i)) (λ i. h (suc i))) (h 0))
 
 -- a number of fewer than eight bytes has room for one more
-pub joined-room : (n : ℕ) (bytes : ℕ → ℕ) → ((i : ℕ) → bytes i < 256) → n < 8 → joined n bytes * 256 + 255 < 2 ^ 64
+joined-room : (n : ℕ) (bytes : ℕ → ℕ) → ((i : ℕ) → bytes i < 256) → n < 8 → joined n bytes * 2 ^ 8 < 2 ^ 64
 joined-room n bytes h l =
     let few : n * 8 ≤ 56 = omega arith in
     omega (arith, joined-less n bytes h, pow-mono few)
 
 -- a byte more, in front
-pub joined-next : (s : Bytes) (at i r x : ℕ) → 0 < i → i ≤ 8 → r ≡ joined (8 - i) (λ n. byte s (at + (i + n))) → x ≡ byte s (at + (i - 1))
-    → r * 256 + x ≡ joined (8 - (i - 1)) (λ n. byte s (at + (i - 1 + n)))
+pub joined-next : (s : Bytes) → ((i : ℕ) → byte s i < 256) → (at i r x : ℕ) → 0 < i → i ≤ 8 → r ≡ joined (8 - i) (λ n. byte s (at + (i + n))) → x ≡ byte s (at + (i - 1))
+    → bitOr ((r * 2 ^ 8) % 2 ^ 64) x ≡ joined (8 - (i - 1)) (λ n. byte s (at + (i - 1 + n)))
 unfolding joined
-joined-next s at i r x some few q h =
+joined-next s small at i r x some few q h =
     let more : 8 - (i - 1) ≡ suc (8 - i) = omega arith in
     let here : at + (i - 1) ≡ at + (i - 1 + 0) = omega arith in
-    ap₂ (λ (y z : ℕ). y * 256 + z)
+    let room = joined-room (8 - i) (λ n. byte s (at + (i + n))) (λ n. small (at + (i + n))) (omega arith) in
+    shifted-or 64 8 r x (omega (arith, q, room)) (omega (arith, h, small (at + (i - 1))))
+    ∙ ap₂ (λ (y z : ℕ). y * 256 + z)
     (q ∙ joined-same (8 - i) _ _ (λ n. let e : at + (i + n) ≡ at + (i - 1 + suc n) = omega arith in ap (byte s) e))
     (h ∙ ap (byte s) here)
     ∙ ap (λ (m : ℕ). joined m (λ n. byte s (at + (i - 1 + n)))) (sym more)
@@ -74,16 +76,28 @@ unfolding bytesBits
 joined-word s at small =
     is-number 64 _ (bytesBits s at) (joined-less 8 _ (λ i. small (at + i))) (λ b l. joined-bit 8 _ (λ i. small (at + i)) b l)
 
--- eight bytes by two
-pub eight-word : (s : Bytes) (at : ℕ) → ((i : ℕ) → byte s i < 256)
+-- eight bytes by two, as a sum
+eight-sum : (s : Bytes) (at : ℕ) → ((i : ℕ) → byte s i < 256)
     → (twoBytes s (at + 6) * 65536 + twoBytes s (at + 4)) * 4294967296 + (twoBytes s (at + 2) * 65536 + twoBytes s at) ≡ number 64 (bytesBits s at)
 unfolding joined
-eight-word s at small =
+eight-sum s at small =
     let zeroth : at ≡ at + 0 = omega arith in
     let third : at + 2 + 1 ≡ at + 3 = omega arith in
     let fifth : at + 4 + 1 ≡ at + 5 = omega arith in
     let seventh : at + 6 + 1 ≡ at + 7 = omega arith in
     omega (arith, ap (byte s) zeroth, ap (byte s) third, ap (byte s) fifth, ap (byte s) seventh, joined-word s at small)
+
+-- and by shifts
+pub eight-word : (s : Bytes) (at a b c d : ℕ) → ((i : ℕ) → byte s i < 256)
+    → (a ≡ twoBytes s (at + 6)) × (a < 65536) → (b ≡ twoBytes s (at + 4)) × (b < 65536)
+    → (c ≡ twoBytes s (at + 2)) × (c < 65536) → (d ≡ twoBytes s at) × (d < 65536)
+    → bitOr ((bitOr ((a * 2 ^ 16) % 2 ^ 64) b * 2 ^ 32) % 2 ^ 64) (bitOr ((c * 2 ^ 16) % 2 ^ 64) d) ≡ number 64 (bytesBits s at)
+eight-word s at a b c d small p q r t =
+    let high = shifted-or 64 16 a b (omega (arith, p .1)) (q .1) in
+    let low = shifted-or 64 16 c d (omega (arith, r .1)) (t .1) in
+    ap₂ (λ (x y : ℕ). bitOr ((x * 2 ^ 32) % 2 ^ 64) y) high low
+    ∙ shifted-or 64 32 (a * 65536 + b) (c * 65536 + d) (omega (arith, p .1, q .1)) (omega (arith, r .1, t .1))
+    ∙ omega (arith, p .0, q .0, r .0, t .0, eight-sum s at small)
 
 -- and the last one
 pub joined-last : (s : Bytes) (at i r : ℕ) → ((i : ℕ) → byte s i < 256) → i ≤ 0 → r ≡ joined (8 - i) (λ n. byte s (at + (i + n)))

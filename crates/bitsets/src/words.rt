@@ -1,5 +1,5 @@
 // Sets of elements in words: masks, words combined, and the words that bytes make.
-use layout::bytes::byte_at;
+use primitives::bytes::byte_at;
 ghost use mathlib.Core.Path.{_≡_};
 ghost use Prim.Native.Nat.{_+_, _^_, _≤_, _<_};
 ghost use lib.Count.{trailingZeros};
@@ -65,7 +65,7 @@ pub fn u16_inside(s: &[u8], at: usize) -> u16
     requires { ⌜ at + 1 < length (now s) ⌝ }
     ensures { λ r. ⌜ r ≡ u16 (now (s .entry)) at ⌝ }
 {
-    (s[at] as u16) * 256 + s[at + 1] as u16
+    ((s[at] as u16) << 8) | s[at + 1] as u16
 }
 
 // The byte as a word.
@@ -80,7 +80,7 @@ fn two_bytes(s: &[u8], at: usize) -> u64
     requires { ⌜ at + 2 ≤ length (now s) ⌝ }
     ensures { λ r. ⌜ (r ≡ twoBytes (now (s .entry)) at) × (r < 65536) ⌝ }
 {
-    wide(s[at + 1]) * 256 + wide(s[at])
+    (wide(s[at + 1]) << 8) | wide(s[at])
 }
 
 // The eight bytes at a place as a word, the first lowest; bytes past the end are 0.
@@ -92,7 +92,7 @@ fn last_bytes(s: &[u8], at: usize) -> u64
     let mut i = 8;
     while i > 0 {
         i -= 1;
-        result = result * 256 + byte_at(s, at + i) as u64;
+        result = (result << 8) | byte_at(s, at + i) as u64;
     }
     result
 }
@@ -102,9 +102,9 @@ pub fn inside_bytes(s: &[u8], at: usize) -> u64
     requires { ⌜ at + 8 ≤ length (now s) ⌝ }
     ensures { λ r. ⌜ r ≡ number 64 (bytesBits (now (s .entry)) at) ⌝ }
 {
-    let high = two_bytes(s, at + 6) * 65536 + two_bytes(s, at + 4);
-    let low = two_bytes(s, at + 2) * 65536 + two_bytes(s, at);
-    high * 4294967296 + low
+    let high = (two_bytes(s, at + 6) << 16) | two_bytes(s, at + 4);
+    let low = (two_bytes(s, at + 2) << 16) | two_bytes(s, at);
+    (high << 32) | low
 }
 
 // The same; bytes past the end are 0.

@@ -1,17 +1,19 @@
--- The two halves of the test of a data set's frame are the whole, and what the first half gives: bodies that can be cut out. Assumes nothing.
+-- The two halves of the test of a data set's frame are the whole, and what the first half gives: bodies that lie within the bytes. Assumes nothing.
 use Prim.Native.Nat.{ℕ, zero, suc, _+_, _*_, _≤_, _<_}
-use mathlib.Core.Path.{_≡_, sym}
+use mathlib.Core.Path.{_≡_}
 use mathlib.Core.Bool.{Bool}
 use native.Mathlib.Decide.{decLe, decLt}
 use native.Mathlib.Omega.{arith}
-use lib.ListN.{length, List·getD-eq-default}
+use lib.ListN.{getD, length, List·getD-eq-default}
 use Rattle.model.specs.Tests.{Is, _and_}
-use Rattle.model.specs.Bytes.{Bytes, u16, part, boundary, body}
+use Rattle.model.specs.Bytes.{Bytes, u16, boundary, body}
 use Rattle.model.specs.Layout.{Plan, mapCount, suppliedCount}
 use Rattle.model.specs.DataSets.{dataOf, size, entryStart, memberStart, wellFramed}
 use Rattle.model.proofs.Tests.{both, pair, same, every-of, most! }
-use Rattle.dataset.specs.DataParts.{frameOf, dataParts, Cut}
-use Rattle.dataset.specs.declared.data.DataFrame.{DataFrame}
+use Rattle.primitives.specs.declared.sections.Frame.{Frame}
+use Rattle.primitives.specs.Sections.{frameOf, Delimits}
+use Rattle.primitives.proofs.Bodies.{boundary-next, frame-at}
+use Rattle.dataset.specs.DataParts.{dataParts}
 use Rattle.dataset.specs.Framing.{laidOut, lengthsRight}
 use Rattle.bitsets.proofs.Bits.{agree}
 
@@ -24,14 +26,6 @@ grows f step n (suc m) h = go (grows f step n m) (decLe n m)
     go below (yes l) = omega (arith, below l, step m)
     go below (no l) = let e : n ≡ suc m = omega arith in rw e (omega arith)
 
-pub boundary-next : (d : Bytes) (n : ℕ) → boundary d n + 2 ≤ boundary d (suc n)
-unfolding boundary
-boundary-next d n = omega arith
-
-first-end : (d : Bytes) → 3 ≤ boundary d 1
-unfolding boundary
-first-end d = omega arith
-
 pub boundary-grows : (d : Bytes) (n m : ℕ) → n ≤ m → boundary d n ≤ boundary d m
 boundary-grows d = grows (boundary d) (λ k. omega (arith, boundary-next d k))
 
@@ -39,7 +33,7 @@ boundary-grows d = grows (boundary d) (λ k. omega (arith, boundary-next d k))
 module _ (d : Bytes) (e : length d ≡ boundary d 4) where
   section-ends : (n : ℕ) → n < 4 → (boundary d n + 2 ≤ length d) × (boundary d (suc n) ≤ length d)
   section-ends n lt =
-      let a = boundary-next d n in
+      let a : boundary d n + 2 ≤ boundary d (suc n) = omega (arith, boundary-next d n) in
       let b = boundary-grows d (suc n) 4 (omega arith) in
       (omega arith, omega arith)
 
@@ -60,24 +54,24 @@ module _ (P : Plan) (d : Bytes) where
       let ends = every-of 4 _ (λ n lt. let s = section-ends d e n lt in pair (most! (s .0)) (most! (s .1))) in
       pair (most! (some-bytes d e)) (pair (o .0) (pair ends (pair (o .1) (both h .1)))))
 
--- the bodies of bytes whose sections end with them
-pub laid-out-cut : (d : Bytes) → Is (laidOut d) → Cut (length d) (frameOf d)
+-- the sections of bytes that the last one ends with
+pub laid-out-delimited : (d : Bytes) → Is (laidOut d) → Delimits 4 d (frameOf 4 d)
 unfolding laidOut
-laid-out-cut d h =
+laid-out-delimited d h =
     record {
-      pieces = first-end d;
-      sizes = boundary-next d 1;
-      entries = boundary-next d 2;
-      members = boundary-next d 3;
-      all = sym (same (both h .1));
+      few = omega arith;
+      places = λ k l. frame-at d 4 k (omega arith) l;
+      inside = λ k l. omega (arith, same (both h .1), boundary-grows d k 4 l);
     }
 
--- and they are the data set's
-pub bodies-cut : (d : Bytes) (frame : DataFrame) → frame ≡ frameOf d →
-    dataParts (part d 3 (frame .pieces)) (part d (frame .pieces + 2) (frame .sizes)) (part d (frame .sizes + 2) (frame .entries))
-    (part d (frame .entries + 2) (frame .members)) ≡ dataOf d
-unfolding body boundary
-bodies-cut d frame e = rw e
+-- the last place of their frame
+pub last-place : (d : Bytes) {frame : Frame} → frame ≡ frameOf 4 d → getD (frame .boundaries) 4 0 ≡ boundary d 4
+last-place d e = rw e (frame-at d 4 4 (omega arith) (omega arith))
+
+-- the bodies that a data set's bytes have, handed on one by one
+pub handed-data : (d : Bytes) {pieceCount sizes entries members : Bytes} → pieceCount ≡ body d 0 → sizes ≡ body d 1 → entries ≡ body d 2 →
+    members ≡ body d 3 → dataParts pieceCount sizes entries members ≡ dataOf d
+handed-data d n s e m = rw (n, s, e, m)
 
 -- a size is read as 0 where there is no region
 pub sizes-most : (n : ℕ) (sizes : Bytes) → length sizes ≡ 2 * n → ((r : ℕ) → r < n → u16 sizes (2 * r) ≤ 512) → (region : ℕ) → u16 sizes (2 * region) ≤ 512

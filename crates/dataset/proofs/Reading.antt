@@ -11,7 +11,8 @@ use Rattle.model.specs.DataSets.{DataSet, dataOf, pieces, size, entryStart, pie
 use Rattle.model.specs.PlainData.{WellFramed, Fits}
 use Rattle.model.proofs.Tests.{both, pair, same, same!, most, every-at}
 use Rattle.model.proofs.DataAgrees.{data-fits}
-use Rattle.dataset.specs.DataParts.{frameOf, Cut, mapsPlan, entriesData, suppliedPlan, membersData}
+use Rattle.primitives.specs.Sections.{frameOf, Delimits}
+use Rattle.dataset.specs.DataParts.{mapsPlan, entriesData, suppliedPlan, membersData}
 use Rattle.dataset.specs.Framing.{laidOut, lengthsRight}
 use Rattle.dataset.specs.Starts.{entryStarts, memberStarts, EntriesPlaced, MembersPlaced}
 use Rattle.dataset.specs.SectionChecks.{allEntries, allSupplied}
@@ -23,15 +24,14 @@ use Rattle.model.specs.declared.Outcome.{Outcome}
 use Rattle.model.specs.declared.Refusal.{Refusal}
 use Rattle.model.specs.declared.Outcome.the-variants.{Pass, Refuse}
 use Rattle.model.specs.declared.Refusal.the-variants.{InvalidData}
-use Rattle.dataset.proofs.Framing.{section-lengths-right, framed-is, laid-out-cut, sizes-most}
+use Rattle.dataset.proofs.Framing.{section-lengths-right, framed-is, laid-out-delimited, sizes-most}
 use Rattle.dataset.proofs.Starts.{map-placed, partition-placed}
 use Rattle.dataset.proofs.Depends.{same-entry-start, same-entries, same-member-start, same-supplied, same-data-check}
 
 -- what the reading of a data set that fits gives to those who go on from it
 pub record DataGiven (P : Plan) (d : Bytes) (r : DataReading) : Type 0 where
   pub fits : Fits P d
-  pub ends : r .frame ≡ frameOf d
-  pub cut : Cut (length d) (r .frame)
+  pub delimited : Delimits 4 d (r .frame)
   pub size-most : (region : ℕ) → size (dataOf d) region ≤ 512
   pub entries-begin : (m : ℕ) → m < mapCount P → getD (r .«entry_starts») m 0 ≡ entryStart P (dataOf d) m
   pub entries-inside : (m : ℕ) → m < mapCount P → entryStart P (dataOf d) m + 2 * size (dataOf d) (source P m) ≤ length (body d 2)
@@ -108,12 +108,12 @@ module _ (P : Plan) (d : Bytes) where
   unfolding dataCheck bodiesCheck section-lengths-right
   data-check-is = rw (framed-is P d) (require-both (laidOut d) (section-lengths-right P d) InvalidData _)
 
-  pub reading-laid-out : Is (laidOut d) → bodiesReading P (dataOf d) (frameOf d) ≡ reading P d
+  pub reading-laid-out : Is (laidOut d) → bodiesReading P (dataOf d) (frameOf 4 d) ≡ reading P d
   unfolding require _then_ pick
   reading-laid-out h = rw (data-check-is, h)
 
   pub reading-refused : laidOut d ≡ false
-      → record { outcome = Refuse InvalidData; frame = frameOf d; «entry_starts» = replicate 16 0; «member_starts» = replicate 8 0 } ≡ reading P d
+      → record { outcome = Refuse InvalidData; frame = frameOf 4 d; «entry_starts» = replicate 16 0; «member_starts» = replicate 8 0 } ≡ reading P d
   unfolding require _then_ pick
   reading-refused h = rw (data-check-is, h)
 
@@ -141,8 +141,7 @@ module _ (P : Plan) (d : Bytes) where
       in
       record {
         fits = fits;
-        ends = refl;
-        cut = laid-out-cut d layout;
+        delimited = laid-out-delimited d layout;
         size-most = size-most framed;
         entries-begin = λ m lt. rw layout (map-placed P (dataOf d) m entries lt .begins);
         entries-inside = λ m lt. let at = map-placed P (dataOf d) m entries lt in rw (at .begins) at (at .inside);

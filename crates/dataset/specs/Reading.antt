@@ -1,6 +1,6 @@
 -- What reading a data set against the sections of a plan gives.
 use mathlib.Core.List.{[]}
-use lib.ListN.{length, replicate}
+use lib.ListN.{replicate}
 use Prim.Native.Nat.{_≤_}
 use mathlib.Core.Path.{_≡_}
 use Rattle.model.specs.Tests.{pick}
@@ -10,14 +10,14 @@ use Rattle.model.specs.Layout.{Plan, mapCount, suppliedCount}
 use Rattle.model.specs.DataSets.{DataSet, dataOf, dataCheck}
 use Rattle.model.specs.declared.Outcome.{Outcome}
 use Rattle.model.specs.declared.Refusal.the-variants.{InvalidData}
-use Rattle.layout.specs.Parts.{parts}
-use Rattle.dataset.specs.DataParts.{frameOf, Cut}
+use Rattle.primitives.specs.Parts.{parts}
 use Rattle.dataset.specs.Framing.{laidOut, lengthsRight}
 use Rattle.dataset.specs.Starts.{entryStarts, memberStarts}
 use Rattle.dataset.specs.SectionChecks.{allEntries, allSupplied}
 use Rattle.dataset.specs.declared.entries.EntryStarts.{EntryStarts}
 use Rattle.dataset.specs.declared.supplied.MemberStarts.{MemberStarts}
-use Rattle.dataset.specs.declared.data.DataFrame.{DataFrame}
+use Rattle.primitives.specs.declared.sections.Frame.{Frame}
+use Rattle.primitives.specs.Sections.{frameOf, Delimits}
 use Rattle.dataset.specs.declared.data.DataReading.{DataReading}
 
 -- the plan of the sections that a data set is read against
@@ -42,7 +42,7 @@ module _ (P : Plan) where
     pub entries : entriesAt ≡ entryStarts P D
     pub members : membersAt ≡ memberStarts P D
 
-  abbrev pub bodiesReading : DataSet → DataFrame → DataReading
+  abbrev pub bodiesReading : DataSet → Frame → DataReading
   bodiesReading D frame =
       record {
         outcome = bodiesCheck D;
@@ -51,18 +51,17 @@ module _ (P : Plan) where
         «member_starts» = memberStarts P D .starts;
       }
 
-  -- the sections of these bytes end as the frame says, and the last where the bytes do
-  pub record LaidOut (d : Bytes) (frame : DataFrame) : Type 0 where
+  -- the sections of these bytes are where the frame says
+  pub record LaidOut (d : Bytes) (frame : Frame) : Type 0 where
     pub few : FewRecords P
-    pub ends : frame ≡ frameOf d
-    pub cut : Cut (length d) frame
+    pub delimited : Delimits 4 d frame
 
-  -- the outcome of the checks, the ends of the sections, and the starts of entries and members where the sections can be cut out
+  -- the outcome of the checks, the frame, and the starts of entries and members where the sections can be cut out
   abbrev pub reading : Bytes → DataReading
   reading d =
       record {
         outcome = dataCheck P d;
-        frame = frameOf d;
+        frame = frameOf 4 d;
         «entry_starts» = pick (laidOut d) (entryStarts P (dataOf d) .starts) (replicate 16 0);
         «member_starts» = pick (laidOut d) (memberStarts P (dataOf d) .starts) (replicate 8 0);
       }

@@ -1,52 +1,32 @@
-// Reading a data set: where its four sections end, whether their lengths and sizes are right, and their bodies handed on.
+// Reading a data set: whether the lengths and sizes of its four sections are right, and their bodies handed on.
 use crate::entries::EntryStarts;
 use crate::entries::check_entries;
 use crate::entries::place_entries;
 use crate::supplied::MemberStarts;
 use crate::supplied::check_supplied;
 use crate::supplied::place_members;
-use layout::bytes::byte_at;
-use layout::bytes::u16_at;
-use layout::outcomes::and_then;
 use model::Outcome;
 use model::Refusal;
+use primitives::bytes::byte_at;
+use primitives::bytes::u16_at;
+use primitives::outcomes::and_then;
+use primitives::sections::Frame;
+use primitives::sections::read_frame;
+use primitives::sections::section_body;
 ghost use mathlib.Core.Path.{_≡_};
 ghost use Rattle.model.specs.DataSets.{dataOf};
-ghost use Rattle.dataset.specs.DataParts.{frameOf, dataParts};
+ghost use Rattle.primitives.specs.Sections.{frameOf};
+ghost use Rattle.dataset.specs.DataParts.{dataParts};
 ghost use Rattle.dataset.specs.Framing.{laidOut, sizesFit, lengthsRight};
 ghost use Rattle.dataset.specs.Reading.{sections, FewRecords, BodiesPlaced, bodiesCheck, bodiesReading, LaidOut, reading};
 
-// Where the bodies of the four sections end: the number of pieces, the sizes, the entries, the members.
-pub struct DataFrame {
-    pub pieces: usize,
-    pub sizes: usize,
-    pub entries: usize,
-    pub members: usize,
-}
-
-// What reading a data set gives: the outcome of its checks, the ends of its sections, and where each map's entries and each
+// What reading a data set gives: the outcome of its checks, its frame, and where each map's entries and each
 // supplied partition's members begin in theirs.
 pub struct DataReading {
     pub outcome: Outcome,
-    pub frame: DataFrame,
+    pub frame: Frame,
     pub entry_starts: [usize; 16],
     pub member_starts: [usize; 8],
-}
-
-// The ends of the sections that follow the edition byte, each behind its length.
-fn read_frame(data: &[u8]) -> DataFrame
-    ensures { λ r. ⌜ r ≡ frameOf (now («data» .entry)) ⌝ }
-{
-    let pieces = 3 + u16_at(data, 1);
-    let sizes = pieces + 2 + u16_at(data, pieces);
-    let entries = sizes + 2 + u16_at(data, sizes);
-    let members = entries + 2 + u16_at(data, entries);
-    DataFrame {
-        pieces,
-        sizes,
-        entries,
-        members,
-    }
 }
 
 // Whether each region's size is at most 512.
@@ -84,11 +64,12 @@ fn are_lengths_right(
 }
 
 // Whether the edition is 1 and the sections end where the bytes do.
-fn is_laid_out(data: &[u8], frame: DataFrame) -> bool
-    requires { ⌜ frame ≡ frameOf (now «data») ⌝ }
+fn is_laid_out(data: &[u8], frame: Frame) -> bool
+    requires { ⌜ frame ≡ frameOf 4 (now «data») ⌝ }
     ensures { λ r. ⌜ r ≡ laidOut (now («data» .entry)) ⌝ }
 {
-    (byte_at(data, 0) == 1) & (data.len() == frame.members)
+    let boundaries = frame.boundaries;
+    (byte_at(data, 0) == 1) & (data.len() == boundaries[4])
 }
 
 // The checks of the four bodies, whose entries and members are placed as given.
@@ -137,7 +118,7 @@ fn read_bodies(
     sizes: &[u8],
     entries: &[u8],
     members: &[u8],
-    frame: DataFrame,
+    frame: Frame,
 ) -> DataReading
     requires { ⌜ FewRecords (sections (now regions) (now maps) (now supplied)) ⌝ }
     ensures { λ r. ⌜ r ≡ bodiesReading (sections (now (regions .entry)) (now (maps .entry)) (now (supplied .entry))) (dataParts (now («piece_count» .entry)) (now (sizes .entry)) (now (entries .entry)) (now (members .entry))) frame ⌝ }
@@ -171,26 +152,23 @@ fn read_laid_out(
     maps: &[u8],
     supplied: &[u8],
     data: &[u8],
-    frame: DataFrame,
+    frame: Frame,
 ) -> DataReading
     requires { ⌜ LaidOut (sections (now regions) (now maps) (now supplied)) (now «data») frame ⌝ }
     ensures { λ r. ⌜ r ≡ bodiesReading (sections (now (regions .entry)) (now (maps .entry)) (now (supplied .entry))) (dataOf (now («data» .entry))) frame ⌝ }
 {
-    let pieces_end = frame.pieces;
-    let sizes_start = frame.pieces + 2;
-    let sizes_end = frame.sizes;
-    let entries_start = frame.sizes + 2;
-    let entries_end = frame.entries;
-    let members_start = frame.entries + 2;
-    let members_end = frame.members;
+    let piece_count = section_body(data, frame, 0);
+    let sizes = section_body(data, frame, 1);
+    let entries = section_body(data, frame, 2);
+    let members = section_body(data, frame, 3);
     read_bodies(
         regions,
         maps,
         supplied,
-        &data[3..pieces_end],
-        &data[sizes_start..sizes_end],
-        &data[entries_start..entries_end],
-        &data[members_start..members_end],
+        piece_count,
+        sizes,
+        entries,
+        members,
         frame,
     )
 }
@@ -200,7 +178,7 @@ pub fn read_data(regions: &[u8], maps: &[u8], supplied: &[u8], data: &[u8]) -> D
     requires { ⌜ FewRecords (sections (now regions) (now maps) (now supplied)) ⌝ }
     ensures { λ r. ⌜ r ≡ reading (sections (now (regions .entry)) (now (maps .entry)) (now (supplied .entry))) (now («data» .entry)) ⌝ }
 {
-    let frame = read_frame(data);
+    let frame = read_frame(data, 4);
     if is_laid_out(data, frame) {
         read_laid_out(regions, maps, supplied, data, frame)
     } else {

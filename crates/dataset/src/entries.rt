@@ -1,9 +1,9 @@
 // The entries of the maps: where each map's begin, and whether each leads to an element.
 use bitsets::words::u16_inside;
-use layout::bytes::byte_at;
-use layout::bytes::u16_at;
 use model::Outcome;
 use model::Refusal;
+use primitives::bytes::byte_at;
+use primitives::bytes::u16_at;
 ghost use mathlib.Core.Path.{_≡_};
 ghost use Prim.Native.Nat.{_+_, _*_, _/_, _≤_};
 ghost use mathlib.Core.List.{[]};

@@ -1,5 +1,5 @@
 -- The stages of evaluating: what each is handed is at hand, and what it leaves is what the checks say. Assumes nothing.
-use Prim.Native.Nat.{ℕ, _+_, _-_, _*_, _/_, _≤_, _<_}
+use Prim.Native.Nat.{ℕ, _*_, _/_, _≤_, _<_}
 use mathlib.Core.Path.{_≡_, refl, sym, ap, _∙_}
 use mathlib.Core.List.{List}
 use mathlib.Core.Bool.{false}
@@ -7,7 +7,7 @@ use native.Mathlib.Nat.{mul-le-mul}
 use native.Mathlib.Omega.{arith}
 use lib.ListN.{length}
 use Rattle.model.specs.Tests.{_≤?_}
-use Rattle.model.specs.Bytes.{Bytes, part}
+use Rattle.model.specs.Bytes.{Bytes, body}
 use Rattle.model.specs.Outcomes.{require, _then_, conclude}
 use Rattle.model.specs.Layout.{Plan, planOf}
 use Rattle.model.specs.Verdict.{planCheck, accepted, verdict}
@@ -26,13 +26,11 @@ use Rattle.model.proofs.Fitting.{fit}
 use Rattle.model.proofs.EvaluationPromise.{evaluation-promise}
 use Rattle.plan.specs.declared.Reading.{Reading}
 use Rattle.plan.specs.Reading.{AcceptedReading}
-use Rattle.plan.proofs.Verdict.{cut, cut-plan}
-use Rattle.dataset.specs.declared.data.DataFrame.{DataFrame}
+use Rattle.primitives.specs.declared.sections.Frame.{Frame}
 use Rattle.dataset.specs.declared.data.DataReading.{DataReading}
 use Rattle.dataset.specs.Reading.{sections, FewRecords, reading}
 use Rattle.subregions.specs.Fill.{AllHanded}
 use Rattle.evaluate.specs.Stages.{Sections, DataHeld, Held, lentCheck, wordsLeft, Left, SectionsReady, PlanDone}
-use Rattle.dataset.proofs.Framing.{bodies-cut}
 use Rattle.dataset.proofs.Reading.{DataGiven, data-given, reading-of}
 
 few-records : {P : Plan} {maps supplied nodes : Bytes} → Sections P maps supplied nodes → FewRecords P
@@ -52,14 +50,12 @@ module _ (P : Plan) {maps supplied nodes : Bytes} where
   read-as d regions-are S read = read ∙ rw (regions-are, S .maps-are, S .supplied-are) (reading-of P d)
 
 module _ (P : Plan) {maps supplied nodes d : Bytes} where
-  -- the bodies, cut where the frame says, are the data set's
+  -- what all fills ask for, of the data set's bodies
   pub all-handed :
-      {frame : DataFrame} {entryStarts memberStarts : List ℕ} {N lent : ℕ} →
-      DataHeld P maps supplied nodes d frame entryStarts memberStarts N lent →
-      AllHanded P (dataOf d) maps supplied nodes (part d (frame .pieces + 2) (frame .sizes)) (part d (frame .sizes + 2) (frame .entries))
-      (part d (frame .entries + 2) (frame .members)) entryStarts memberStarts N lent
-  all-handed {frame} held =
-      let bodies = bodies-cut d frame (held .ends) in
+      {frame : Frame} {sizes entries members : Bytes} {entryStarts memberStarts : List ℕ} {N lent : ℕ} → sizes ≡ body d 1 → entries ≡ body d 2 →
+      members ≡ body d 3 → DataHeld P maps supplied nodes d frame entryStarts memberStarts N lent →
+      AllHanded P (dataOf d) maps supplied nodes sizes entries members entryStarts memberStarts N lent
+  all-handed sizes-are entries-are members-are held =
       record {
         handed = record {
           plan = held .sections .facts;
@@ -67,8 +63,8 @@ module _ (P : Plan) {maps supplied nodes d : Bytes} where
           fit = fit P d (held .fits);
           enough = held .enough;
           nodes-are = held .sections .nodes-are;
-          entries-are = ap (λ D. D .entries) bodies;
-          members-are = ap (λ D. D .members) bodies;
+          entries-are = entries-are;
+          members-are = members-are;
           pieces-are = held .pieces-are;
           entries-begin = held .entries-begin;
           members-begin = held .members-begin;
@@ -79,7 +75,7 @@ module _ (P : Plan) {maps supplied nodes d : Bytes} where
           maps-are = held .sections .maps-are;
           supplied-are = held .sections .supplied-are;
           nodes-are = held .sections .nodes-are;
-          sizes-are = ap (λ D. D .sizes) bodies;
+          sizes-are = sizes-are;
         };
       }
 
@@ -99,7 +95,7 @@ module _ (P : Plan) {maps supplied nodes d : Bytes} where
           record {
             sections = held .sections;
             fits = held .fits;
-            ends = given .ends;
+            delimited = given .delimited;
             entries-begin = given .entries-begin;
             members-begin = given .members-begin;
             pieces-are = counted;
@@ -131,24 +127,17 @@ module _ (P : Plan) (d : Bytes) {o : Outcome} (checked : o ≡ dataCheck P d) wh
   unfolding _then_ wordsLeft
   data-refused old refused = record { checked = rw (sym checked ∙ refused); words = refl }
 
--- the sections, cut where the frame says, are the plan's
-module _ {p : Bytes} {r : Reading} (ready : AcceptedReading p r) where
-  cut-is : cut p (r .frame) ≡ planOf p
-  cut-is = cut-plan p (r .frame) (ready .laid .places)
-
-  pub plan-regions : part p 3 (r .frame .regions) ≡ planOf p .regions
-  plan-regions = ap (λ P. P .regions) cut-is
-
-  pub plan-sections : Sections (planOf p) (part p (r .frame .regions + 2) (r .frame .maps)) (part p (r .frame .maps + 2) (r .frame .supplied))
-      (part p (r .frame .statements + 2) (r .frame .nodes))
-  plan-sections =
-      record {
-        facts = ready .facts;
-        limits = ready .limits;
-        maps-are = ap (λ P. P .maps) cut-is;
-        supplied-are = ap (λ P. P .supplied) cut-is;
-        nodes-are = ap (λ P. P .nodes) cut-is;
-      }
+-- the sections of a plan that was read
+pub plan-sections : {p : Bytes} {r : Reading} {maps supplied nodes : Bytes} → AcceptedReading p r → maps ≡ body p 1 → supplied ≡ body p 2 →
+    nodes ≡ body p 4 → Sections (planOf p) maps supplied nodes
+plan-sections ready maps-are supplied-are nodes-are =
+    record {
+      facts = ready .facts;
+      limits = ready .limits;
+      maps-are = maps-are;
+      supplied-are = supplied-are;
+      nodes-are = nodes-are;
+    }
 
 -- the words that the checks leave are those after their answer
 left-after : (p d : Bytes) (old : List ℕ) (o : Outcome) {a : Answer} {symbols nodes steps : ℕ} → a ≡ Accepted symbols nodes steps →

@@ -13,9 +13,9 @@ use Rattle.model.specs.declared.Outcome.{Outcome}
 use Rattle.model.specs.declared.Outcome.the-variants.{Pass, Refuse}
 use Rattle.model.specs.declared.Refusal.the-variants.{OutputTooSmall}
 use Rattle.model.specs.AcceptedPlans.{Facts, Limits}
-use Rattle.dataset.specs.declared.data.DataFrame.{DataFrame}
+use Rattle.primitives.specs.declared.sections.Frame.{Frame}
+use Rattle.primitives.specs.Sections.{Delimits}
 use Rattle.dataset.specs.declared.data.DataReading.{DataReading}
-use Rattle.dataset.specs.DataParts.{frameOf, Cut}
 use Rattle.dataset.specs.Reading.{reading}
 
 module _ (P : Plan) where
@@ -27,11 +27,11 @@ module _ (P : Plan) where
     pub supplied-are : supplied ≡ P .supplied
     pub nodes-are : nodes ≡ P .nodes
 
-  -- a data set that fits, the ends of its sections, where entries and members begin, and words enough
-  pub record DataHeld (maps supplied nodes d : Bytes) (frame : DataFrame) (entryStarts memberStarts : List ℕ) (N lent : ℕ) : Type 0 where
+  -- a data set that fits, where its sections are, where entries and members begin, and words enough
+  pub record DataHeld (maps supplied nodes d : Bytes) (frame : Frame) (entryStarts memberStarts : List ℕ) (N lent : ℕ) : Type 0 where
     pub sections : Sections maps supplied nodes
     pub fits : dataCheck P d ≡ Pass
-    pub ends : frame ≡ frameOf d
+    pub delimited : Delimits 4 d frame
     pub entries-begin : (m : ℕ) → m < mapCount P → getD entryStarts m 0 ≡ entryStart P (dataOf d) m
     pub members-begin : (k : ℕ) → k < suppliedCount P → getD memberStarts k 0 ≡ memberStart P (dataOf d) k
     pub pieces-are : N ≡ pieces (dataOf d)
@@ -58,13 +58,12 @@ module _ (P : Plan) where
     pub words : new ≡ wordsLeft d old outcome
 
 -- the fills can be made
-pub record DataReady (maps supplied nodes d : Bytes) (frame : DataFrame) (entryStarts memberStarts : List ℕ) (N lent : ℕ) : Type 0 where
+pub record DataReady (maps supplied nodes d : Bytes) (frame : Frame) (entryStarts memberStarts : List ℕ) (N lent : ℕ) : Type 0 where
   pub plan : Plan
   pub held : DataHeld plan maps supplied nodes d frame entryStarts memberStarts N lent
-  pub cut : Cut (length d) frame
 
 -- they are made: the words are the final ones
-abbrev pub DataDone : Bytes → Bytes → Bytes → Bytes → DataFrame → List ℕ → List ℕ → ℕ → List ℕ → List ℕ → Type 0
+abbrev pub DataDone : Bytes → Bytes → Bytes → Bytes → Frame → List ℕ → List ℕ → ℕ → List ℕ → List ℕ → Type 0
 DataDone maps supplied nodes d frame entryStarts memberStarts N old new =
     (P : Plan) → DataHeld P maps supplied nodes d frame entryStarts memberStarts N (length old) → new ≡ filledWords P (dataOf d) old
 

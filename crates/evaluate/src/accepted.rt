@@ -1,11 +1,12 @@
 // The stages of evaluating an accepted plan: its sections, the data set, the number of words, then the words themselves.
-use dataset::data::DataFrame;
+use dataset::cells::piece_count;
 use dataset::data::DataReading;
 use dataset::data::read_data;
-use layout::cells::piece_count;
 use model::Outcome;
 use model::Refusal;
 use plan::Reading;
+use primitives::sections::Frame;
+use primitives::sections::section_body;
 use subregions::fill::fill_all;
 ghost use lib.ListN.{length};
 ghost use Rattle.plan.specs.Reading.{AcceptedReading};
@@ -17,7 +18,7 @@ fn fill_data(
     supplied: &[u8],
     nodes: &[u8],
     data: &[u8],
-    frame: DataFrame,
+    frame: Frame,
     entry_starts: &[usize],
     member_starts: &[usize],
     pieces: usize,
@@ -26,20 +27,17 @@ fn fill_data(
     requires { ⌜ DataReady (now maps) (now supplied) (now nodes) (now «data») frame (now «entry_starts») (now «member_starts») pieces (length (now words)) ⌝ }
     ensures { λ _. ⌜ DataDone (now (maps .entry)) (now (supplied .entry)) (now (nodes .entry)) (now («data» .entry)) frame (now («entry_starts» .entry)) (now («member_starts» .entry)) pieces (now (words .entry)) (now (words .exit)) ⌝ }
 {
-    let sizes_start = frame.pieces + 2;
-    let sizes_end = frame.sizes;
-    let entries_start = frame.sizes + 2;
-    let entries_end = frame.entries;
-    let members_start = frame.entries + 2;
-    let members_end = frame.members;
+    let sizes = section_body(data, frame, 1);
+    let entries = section_body(data, frame, 2);
+    let members = section_body(data, frame, 3);
     fill_all(
         words,
         maps,
         supplied,
         nodes,
-        &data[sizes_start..sizes_end],
-        &data[entries_start..entries_end],
-        &data[members_start..members_end],
+        sizes,
+        entries,
+        members,
         entry_starts,
         member_starts,
         pieces,
@@ -106,19 +104,9 @@ pub fn fill_plan(plan: &[u8], reading: Reading, data: &[u8], words: &mut [u64]) 
     ensures { λ r. ⌜ PlanDone (now (plan .entry)) (now («data» .entry)) (now (words .entry)) (now (words .exit)) r ⌝ }
 {
     let frame = reading.frame;
-    let regions_end = frame.regions;
-    let maps_start = frame.regions + 2;
-    let maps_end = frame.maps;
-    let supplied_start = frame.maps + 2;
-    let supplied_end = frame.supplied;
-    let nodes_start = frame.statements + 2;
-    let nodes_end = frame.nodes;
-    fill_sections(
-        &plan[3..regions_end],
-        &plan[maps_start..maps_end],
-        &plan[supplied_start..supplied_end],
-        &plan[nodes_start..nodes_end],
-        data,
-        words,
-    )
+    let regions = section_body(plan, frame, 0);
+    let maps = section_body(plan, frame, 1);
+    let supplied = section_body(plan, frame, 2);
+    let nodes = section_body(plan, frame, 4);
+    fill_sections(regions, maps, supplied, nodes, data, words)
 }

@@ -1,8 +1,8 @@
 // Reads data sets and evaluates accepted plans over them.
 use crate::accepted::fill_plan;
-use layout::outcomes::conclude;
 use model::Answer;
 use plan::read;
+use primitives::outcomes::conclude;
 ghost use Rattle.model.specs.Promises.{EvaluationPromise};
 
 mod accepted;

@@ -1,5 +1,6 @@
 // What a case does with the plan and the data set that it has built.
 use answers::report_answer;
+use dataset::cells::piece_count;
 use evaluate::evaluate;
 use listing::print_answer;
 use listing::print_node;
@@ -33,12 +34,13 @@ pub fn run_check(plan: &[u8]) {
 
 // Prints the members of each node's pieces; there are at most 48 nodes.
 fn print_nodes(data: &[u8], words: &[u64], nodes: usize) {
+    let pieces = piece_count(data);
     let mut node = 0;
     while node < 48 {
         if nodes <= node {
             return;
         }
-        print_node(node, node, data, words);
+        print_node(node, node, pieces, words);
         node += 1;
     }
 }

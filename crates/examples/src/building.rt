@@ -30,7 +30,7 @@ fn lengthen(buffer: &mut [u8], at: usize) {
         return;
     }
     if at < buffer.len() {
-        let length = layout::bytes::u16_at(buffer, at) + 1;
+        let length = primitives::bytes::u16_at(buffer, at) + 1;
         store(buffer, at, length / 256);
         store(buffer, at + 1, length);
     }
@@ -71,7 +71,7 @@ fn open_section(buffer: &mut [u8], place: Place) -> Place {
 fn bit_at(word: &[u8], at: usize) -> usize
     ensures { λ r. ⌜ r < 2 ⌝ }
 {
-    if layout::bytes::byte_at(word, at) == b'1' as usize {
+    if primitives::bytes::byte_at(word, at) == b'1' as usize {
         1
     } else {
         0

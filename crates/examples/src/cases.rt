@@ -49,7 +49,7 @@ fn opens_bytes(word: &[u8]) -> bool {
 
 // Whether a word is a number or bits.
 fn is_item(word: &[u8]) -> bool {
-    let first = layout::bytes::byte_at(word, 0);
+    let first = primitives::bytes::byte_at(word, 0);
     (b'0' as usize <= first) & (first <= b'9' as usize) | same(word, b"none")
 }
 

@@ -15,9 +15,9 @@ use Rattle.model.proofs.Outcomes.{then-pass, require-pass}
 use Rattle.model.proofs.Recursion.{below-at, course-law}
 use Rattle.model.specs.declared.Refusal.the-variants.{InvalidRecord, RegionMismatch, DuplicateNode}
 use Rattle.model.specs.declared.Outcome.the-variants.{Pass, Refuse}
-use Rattle.layout.proofs.Filling.{next-filled}
-use Rattle.layout.proofs.Scanning.{Scanning}
-use Rattle.layout.proofs.Searches.{any-same}
+use Rattle.primitives.proofs.Filling.{next-filled}
+use Rattle.primitives.proofs.Scanning.{Scanning}
+use Rattle.primitives.proofs.Searches.{any-same}
 use Rattle.expressions.specs.Nodes.{nodeNumber, numberOf, isAmong, NodeRead, EarlierNodes, FormedNode, NodeRegionOf, NodeChecked}
 use Rattle.expressions.specs.declared.nodes.Node.{Node}
 use Rattle.expressions.specs.declared.nodes.NodeRegion.{NodeRegion}

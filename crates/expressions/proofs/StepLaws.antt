@@ -18,8 +18,8 @@ use Rattle.model.specs.declared.Conclusion.{Conclusion}
 use Rattle.model.specs.declared.Conclusion.the-variants.{Subset, Disjoint, Complete}
 use Rattle.model.specs.declared.Lemma.{Lemma}
 use Rattle.model.proofs.Tests.{both, pair, same, same!, less, most, latest, fails, refuted}
-use Rattle.layout.specs.Parts.{parts}
-use Rattle.layout.proofs.Scanning.{Scanning}
+use Rattle.expressions.specs.Parts.{stepParts}
+use Rattle.primitives.proofs.Scanning.{Scanning}
 use Rattle.expressions.specs.Steps.{subsetNumber, disjointNumber, completeNumber, conclusionNumber, stepNumber, StepRead, KnownPremises, StepTurn, Concluded}
 use Rattle.expressions.specs.declared.steps.Step.{Step}
 use Rattle.expressions.specs.declared.steps.Premises.{Premises}
@@ -78,7 +78,7 @@ module _ (P : Plan) (t : ℕ) {number conclusion : ℕ} (bytes : (i : ℕ) → g
   says-complete e x< = rw (is, e) (complete-same (bytes _) (bytes _) _ x<)
 
 abbrev pub stepsOnly : Bytes → Plan
-stepsOnly steps = parts [] [] [] [] [] [] steps
+stepsOnly steps = stepParts [] [] [] steps
 
 -- what steps p and q of a step conclude, by comparison with the number of a conclusion
 pub record Said (steps : Bytes) (step : Step) (premises : Premises) : Type 0 where

@@ -2,7 +2,7 @@
 use Prim.Native.Nat.{ℕ, _+_, _*_, _<_, _≤_}
 use mathlib.Core.Path.{_≡_}
 use mathlib.Core.Bool.{Bool}
-use mathlib.Core.List.{List, []}
+use mathlib.Core.List.{List}
 use lib.ListN.{getD, length}
 use Rattle.model.specs.Tests.{Is, _and_, _==_, any}
 use Rattle.model.specs.Bytes.{Bytes}
@@ -11,7 +11,7 @@ use Rattle.model.specs.Outcomes.{scan}
 use Rattle.model.specs.Layout.{Plan, nodeCount, nodeKind, nodeA, nodeB, nodeUnused}
 use Rattle.model.specs.Nodes.{nodeFormed, nodeRegion, nodeAgrees, nodeCheck}
 use Rattle.model.specs.declared.Outcome.the-variants.{Pass}
-use Rattle.layout.specs.Parts.{parts}
+use Rattle.expressions.specs.Parts.{nodeParts}
 use Rattle.expressions.specs.declared.nodes.Node.{Node}
 use Rattle.expressions.specs.declared.nodes.NodeRegion.{NodeRegion}
 use Rattle.expressions.specs.declared.nodes.CheckedNode.{CheckedNode}
@@ -60,7 +60,7 @@ pub record NodeTurn (P : Plan) (regionTable numberTable : List ℕ) (j : ℕ) : 
 -- whether node j is formed, of any plan with these sections that has this record there
 abbrev pub FormedRead : Bytes → Bytes → Bytes → Node → ℕ → Bool → Type 0
 FormedRead regions maps supplied node j r =
-    (nodes : Bytes) → NodeRead nodes j node → r ≡ nodeFormed (parts regions maps supplied [] nodes [] []) j
+    (nodes : Bytes) → NodeRead nodes j node → r ≡ nodeFormed (nodeParts regions maps supplied nodes) j
 
 -- node j is this record, it is formed, and the table has the regions of the nodes before it
 pub record FormedNode (P : Plan) (regionTable : List ℕ) (node : Node) (j : ℕ) : Type 0 where
@@ -77,8 +77,8 @@ pub record NodeRegionOf (P : Plan) (j : ℕ) (r : NodeRegion) : Type 0 where
 -- the region of this record, in any plan with these sections where it is formed
 abbrev pub RegionRead : Bytes → Bytes → List ℕ → Node → NodeRegion → Type 0
 RegionRead maps supplied table node r =
-    (regions nodes : Bytes) (j : ℕ) → FormedNode (parts regions maps supplied [] nodes [] []) table node j
-    → NodeRegionOf (parts regions maps supplied [] nodes [] []) j r
+    (regions nodes : Bytes) (j : ℕ) → FormedNode (nodeParts regions maps supplied nodes) table node j
+    → NodeRegionOf (nodeParts regions maps supplied nodes) j r
 
 -- the outcome of node j, its number and, after a pass, its region
 pub record NodeChecked (P : Plan) (j : ℕ) (r : CheckedNode) : Type 0 where

@@ -14,7 +14,7 @@ use Rattle.model.specs.declared.Outcome.the-variants.{Pass}
 use Rattle.model.specs.declared.Conclusion.{Conclusion}
 use Rattle.model.specs.declared.Conclusion.the-variants.{Subset, Disjoint, Complete}
 use Rattle.model.specs.declared.Lemma.{Lemma}
-use Rattle.layout.specs.Parts.{parts}
+use Rattle.expressions.specs.Parts.{stepParts}
 use Rattle.expressions.specs.Rows.{rowAmong}
 use Rattle.expressions.specs.declared.steps.Step.{Step}
 use Rattle.expressions.specs.declared.steps.Premises.{Premises}
@@ -56,7 +56,7 @@ pub record StepRead (steps : Bytes) (t : ℕ) (r : Step) : Type 0 where
 
 -- whether step t is formed, of any section 7 that has this record there
 abbrev pub FormedRead : Bytes → Step → ℕ → Bool → Type 0
-FormedRead nodes step t r = (steps : Bytes) → StepRead steps t step → r ≡ stepFormed (parts [] [] [] [] nodes [] steps) t
+FormedRead nodes step t r = (steps : Bytes) → StepRead steps t step → r ≡ stepFormed (stepParts [] [] nodes steps) t
 
 -- the step is by one of the n lemmas from a on
 abbrev pub licensedBy : Plan → ℕ → ℕ → Step → Bool

@@ -12,18 +12,18 @@ use crate::steps::Step;
 use crate::steps::complete_number;
 use crate::steps::disjoint_number;
 use crate::steps::subset_number;
-use layout::bytes::byte_at;
+use primitives::bytes::byte_at;
 ghost use mathlib.Core.Path.{_≡_};
 ghost use mathlib.Core.List.{[]};
 ghost use Rattle.model.specs.Bytes.{Bytes};
 ghost use Rattle.model.specs.Lemmas.{licence};
-ghost use Rattle.layout.specs.Parts.{parts};
+ghost use Rattle.expressions.specs.Parts.{nodeParts, stepParts};
 ghost use Rattle.expressions.specs.Steps.{StepBytes, KnownStep, KnownPremises, licensedBy};
 
 // Lemmas 1 to 5: x is equal, or supplied and so declared; y is x.
 fn leaf_licensed(supplied: &[u8], nodes: &[u8], step: Step) -> bool
     requires { ⌜ StepBytes step ⌝ }
-    ensures { λ r. ⌜ r ≡ licensedBy (parts [] [] (now (supplied .entry)) [] (now (nodes .entry)) [] []) 1 5 step ⌝ }
+    ensures { λ r. ⌜ r ≡ licensedBy (nodeParts [] [] (now (supplied .entry)) (now (nodes .entry))) 1 5 step ⌝ }
 {
     let x = node_at(nodes, step.x);
     let flags = byte_at(supplied, x.a * 2 + 1);
@@ -37,7 +37,7 @@ fn leaf_licensed(supplied: &[u8], nodes: &[u8], step: Step) -> bool
 // Lemmas 6 to 11: SUB by way of a third node, and by union, intersection and difference.
 fn operator_licensed(nodes: &[u8], steps: &[u8], step: Step, premises: Premises) -> bool
     requires { ⌜ KnownPremises (now steps) step premises ⌝ }
-    ensures { λ r. ⌜ r ≡ licensedBy (parts [] [] [] [] (now (nodes .entry)) [] (now (steps .entry))) 6 6 step ⌝ }
+    ensures { λ r. ⌜ r ≡ licensedBy (stepParts [] [] (now (nodes .entry)) (now (steps .entry))) 6 6 step ⌝ }
 {
     let x = node_at(nodes, step.x);
     let y = node_at(nodes, step.y);
@@ -59,7 +59,7 @@ fn operator_licensed(nodes: &[u8], steps: &[u8], step: Step, premises: Premises)
 // Lemmas 12 to 14: SUB by image and preimage.
 fn map_licensed(nodes: &[u8], steps: &[u8], step: Step, premises: Premises) -> bool
     requires { ⌜ KnownPremises (now steps) step premises ⌝ }
-    ensures { λ r. ⌜ r ≡ licensedBy (parts [] [] [] [] (now (nodes .entry)) [] (now (steps .entry))) 12 3 step ⌝ }
+    ensures { λ r. ⌜ r ≡ licensedBy (stepParts [] [] (now (nodes .entry)) (now (steps .entry))) 12 3 step ⌝ }
 {
     let x = node_at(nodes, step.x);
     let y = node_at(nodes, step.y);
@@ -76,7 +76,7 @@ fn map_licensed(nodes: &[u8], steps: &[u8], step: Step, premises: Premises) -> b
 // Lemmas 15 to 18: DISJ from a larger partition, and by intersection, difference and preimage.
 fn disjoint_licensed(nodes: &[u8], step: Step, premises: Premises) -> bool
     requires { ⌜ StepBytes step ⌝ }
-    ensures { λ r. ⌜ ((steps : Bytes) → KnownPremises steps step premises → r ≡ licensedBy (parts [] [] [] [] (now (nodes .entry)) [] steps) 15 4 step) ⌝ }
+    ensures { λ r. ⌜ ((steps : Bytes) → KnownPremises steps step premises → r ≡ licensedBy (stepParts [] [] (now (nodes .entry)) steps) 15 4 step) ⌝ }
 {
     let x = node_at(nodes, step.x);
     let y_disjoint = premises.p == disjoint_number(step.y);
@@ -92,7 +92,7 @@ fn disjoint_licensed(nodes: &[u8], step: Step, premises: Premises) -> bool
 // Lemmas 19 and 20: COMP from a smaller partition, and by preimage under a total map.
 fn complete_licensed(maps: &[u8], nodes: &[u8], step: Step, premises: Premises) -> bool
     requires { ⌜ StepBytes step ⌝ }
-    ensures { λ r. ⌜ ((steps : Bytes) → KnownPremises steps step premises → r ≡ licensedBy (parts [] (now (maps .entry)) [] [] (now (nodes .entry)) [] steps) 19 2 step) ⌝ }
+    ensures { λ r. ⌜ ((steps : Bytes) → KnownPremises steps step premises → r ≡ licensedBy (stepParts (now (maps .entry)) [] (now (nodes .entry)) steps) 19 2 step) ⌝ }
 {
     let x = node_at(nodes, step.x);
     let totality = byte_at(maps, x.b * 3 + 2);
@@ -113,7 +113,7 @@ pub fn is_licensed(
     premises: Premises,
 ) -> bool
     requires { ⌜ KnownStep (now steps) step premises ⌝ }
-    ensures { λ r. ⌜ r ≡ licence (parts [] (now (maps .entry)) (now (supplied .entry)) [] (now (nodes .entry)) [] (now (steps .entry))) (step .lemma) (step .x) (step .y) (step .p) (step .q) ⌝ }
+    ensures { λ r. ⌜ r ≡ licence (stepParts (now (maps .entry)) (now (supplied .entry)) (now (nodes .entry)) (now (steps .entry))) (step .lemma) (step .x) (step .y) (step .p) (step .q) ⌝ }
 {
     let lemma = step.lemma;
     match lemma {

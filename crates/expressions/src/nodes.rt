@@ -1,15 +1,14 @@
 // Section 5: expressions.
-use layout::bytes::byte_at;
-use layout::bytes::number_of;
-use layout::outcomes::and_then;
-use layout::outcomes::require;
 use model::Outcome;
 use model::Refusal;
+use primitives::bytes::byte_at;
+use primitives::bytes::number_of;
+use primitives::outcomes::and_then;
+use primitives::outcomes::require;
 ghost use mathlib.Core.Path.{_≡_};
-ghost use mathlib.Core.List.{[]};
 ghost use Prim.Native.Nat.{_+_, _*_, _/_, _^_, _≤_, _<_};
 ghost use lib.ListN.{length};
-ghost use Rattle.layout.specs.Parts.{parts};
+ghost use Rattle.expressions.specs.Parts.{nodeParts};
 ghost use Rattle.expressions.specs.Nodes.{nodeNumber, isAmong, NodeRead, NodeTurn, FormedRead, RegionRead, NodeChecked, NodesChecked};
 
 // The kinds of nodes.
@@ -159,8 +158,8 @@ fn check_node(
     numbers: &[u32],
     j: usize,
 ) -> CheckedNode
-    requires { ⌜ NodeTurn (parts (now regions) (now maps) (now supplied) [] (now nodes) [] []) (now earlier) (now numbers) j ⌝ }
-    ensures { λ r. ⌜ NodeChecked (parts (now (regions .entry)) (now (maps .entry)) (now (supplied .entry)) [] (now (nodes .entry)) [] []) j r ⌝ }
+    requires { ⌜ NodeTurn (nodeParts (now regions) (now maps) (now supplied) (now nodes)) (now earlier) (now numbers) j ⌝ }
+    ensures { λ r. ⌜ NodeChecked (nodeParts (now (regions .entry)) (now (maps .entry)) (now (supplied .entry)) (now (nodes .entry))) j r ⌝ }
 {
     let node = read_node(nodes, j);
     let number = node_number(node.kind, node.a, node.b);
@@ -188,7 +187,7 @@ fn check_node(
 // Section 5: the first refusal of its nodes in order, or the tables of their regions and numbers.
 pub fn check_nodes(regions: &[u8], maps: &[u8], supplied: &[u8], nodes: &[u8]) -> CheckedNodes
     requires { ⌜ length (now nodes) / 4 ≤ 48 ⌝ }
-    ensures { λ r. ⌜ NodesChecked (parts (now (regions .entry)) (now (maps .entry)) (now (supplied .entry)) [] (now (nodes .entry)) [] []) r ⌝ }
+    ensures { λ r. ⌜ NodesChecked (nodeParts (now (regions .entry)) (now (maps .entry)) (now (supplied .entry)) (now (nodes .entry))) r ⌝ }
 {
     let count = nodes.len() / 4;
     let mut table = [0u8; 48];

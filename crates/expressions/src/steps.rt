@@ -1,18 +1,17 @@
 // Section 7: lemma steps.
 use crate::lemmas::lemma_row;
 use crate::licences::is_licensed;
-use layout::bytes::number_of;
-use layout::outcomes::require;
 use model::Conclusion;
 use model::Lemma;
 use model::Outcome;
 use model::Refusal;
+use primitives::bytes::number_of;
+use primitives::outcomes::require;
 ghost use mathlib.Core.Path.{_≡_};
-ghost use mathlib.Core.List.{[]};
 ghost use Prim.Native.Nat.{_+_, _*_, _/_, _≤_, _<_};
 ghost use lib.ListN.{length};
 ghost use Rattle.model.specs.Lemmas.{lemmaRow, inUse, stepCheck};
-ghost use Rattle.layout.specs.Parts.{parts};
+ghost use Rattle.expressions.specs.Parts.{stepParts};
 ghost use Rattle.expressions.specs.Steps.{subsetNumber, disjointNumber, completeNumber, conclusionNumber, StepRead, FormedRead, PremisesRead, StepTurn, StepsRead};
 
 // A record of section 7.
@@ -124,7 +123,7 @@ fn check_step(
     t: usize,
 ) -> Outcome
     requires { ⌜ StepTurn (now steps) (now conclusions) step row t ⌝ }
-    ensures { λ r. ⌜ r ≡ stepCheck (parts [] (now (maps .entry)) (now (supplied .entry)) [] (now (nodes .entry)) [] (now (steps .entry))) t ⌝ }
+    ensures { λ r. ⌜ r ≡ stepCheck (stepParts (now (maps .entry)) (now (supplied .entry)) (now (nodes .entry)) (now (steps .entry))) t ⌝ }
 {
     if is_formed(nodes, step, row, t) {
         let premises = premises_of(conclusions, step);
@@ -144,7 +143,7 @@ pub fn check_steps(
     conclusions: &mut [u32; 128],
 ) -> Outcome
     requires { ⌜ (length (now steps) / 5 ≤ 128) × (length (now conclusions) ≡ 128) ⌝ }
-    ensures { λ r. ⌜ StepsRead (parts [] (now (maps .entry)) (now (supplied .entry)) [] (now (nodes .entry)) [] (now (steps .entry))) r (now (conclusions .exit)) ⌝ }
+    ensures { λ r. ⌜ StepsRead (stepParts (now (maps .entry)) (now (supplied .entry)) (now (nodes .entry)) (now (steps .entry))) r (now (conclusions .exit)) ⌝ }
 {
     let count = steps.len() / 5;
     let mut t = 0;

@@ -1,5 +1,1 @@
 pub mod Frames
-pub mod Bodies
-pub mod Scanning
-pub mod Searches
-pub mod Filling

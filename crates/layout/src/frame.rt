@@ -1,29 +1,19 @@
 // The frame of a plan: its edition, and where its seven sections end.
-use crate::bytes::u16_at;
-use crate::outcomes::and_then;
-use crate::outcomes::require;
 use model::Outcome;
 use model::Refusal;
+use primitives::bytes::u16_at;
+use primitives::outcomes::and_then;
+use primitives::outcomes::require;
+use primitives::sections::Frame;
 ghost use mathlib.Core.Path.{_≡_};
 ghost use Prim.Native.Nat.{_<_, _≤_};
 ghost use lib.ListN.{length};
-ghost use Rattle.layout.specs.Frames.{Shaped, Placed, lengthCheck, sectionsCheck, frameOf, framing, framedOf};
+ghost use Rattle.layout.specs.Frames.{Shaped, Placed, lengthCheck, refused, sectionsFramed, framedOf};
 
-// Where the body of each section ends. It starts 2 bytes past the end before it, that of the regions at 3.
-pub struct Frame {
-    pub regions: usize,
-    pub maps: usize,
-    pub supplied: usize,
-    pub statements: usize,
-    pub nodes: usize,
-    pub assignments: usize,
-    pub steps: usize,
-}
-
-// The frame of a plan whose layout is right, or the first fault of the layout.
-pub enum Framed {
-    Whole(Frame),
-    Broken(Refusal),
+// The outcome of the checks of a plan's layout, and its frame where they pass, all 0 where they do not.
+pub struct Framed {
+    pub outcome: Outcome,
+    pub frame: Frame,
 }
 
 // A row of the table of sections: the bytes of a record, the least and the most records.
@@ -95,47 +85,55 @@ fn check_section(bytes: usize, at: usize, size: usize, section: usize) -> Outcom
     )
 }
 
+// A layout that is refused.
+fn refuse(refusal: Refusal) -> Framed
+    ensures { λ r. ⌜ r ≡ refused refusal ⌝ }
+{
+    Framed {
+        outcome: Outcome::Refuse(refusal),
+        frame: Frame {
+            boundaries: [0usize; 9],
+        },
+    }
+}
+
 // The frame of a plan of edition 1: each section in turn, and nothing after the last.
 fn read_sections(plan: &[u8]) -> Framed
     requires { ⌜ 1 ≤ length (now plan) ⌝ }
-    ensures { λ r. ⌜ r ≡ framing (sectionsCheck (now (plan .entry))) (frameOf (now (plan .entry))) ⌝ }
+    ensures { λ r. ⌜ r ≡ sectionsFramed (now (plan .entry)) ⌝ }
 {
-    let mut ends = [0usize; 7];
+    let mut boundaries = [0usize; 9];
     let mut at = 1;
+    boundaries[0] = at;
     let mut section = 0;
     while section < 7 {
         let size = u16_at(plan, at);
         match check_section(plan.len(), at, size, section) {
             Outcome::Pass => {}
-            Outcome::Refuse(refusal) => return Framed::Broken(refusal),
+            Outcome::Refuse(refusal) => return refuse(refusal),
         }
         at = at + 2 + size;
-        ends[section] = at;
         section += 1;
+        boundaries[section] = at;
     }
     if at < plan.len() {
-        return Framed::Broken(Refusal::TrailingBytes(at));
+        return refuse(Refusal::TrailingBytes(at));
     }
-    Framed::Whole(Frame {
-        regions: ends[0],
-        maps: ends[1],
-        supplied: ends[2],
-        statements: ends[3],
-        nodes: ends[4],
-        assignments: ends[5],
-        steps: ends[6],
-    })
+    Framed {
+        outcome: Outcome::Pass,
+        frame: Frame { boundaries },
+    }
 }
 
-// The frame of a plan, or the first fault of its layout.
+// The layout of a plan: the frame, or the first fault met.
 pub fn read_frame(plan: &[u8]) -> Framed
     ensures { λ r. ⌜ r ≡ framedOf (now (plan .entry)) ⌝ }
 {
     if plan.len() == 0 {
-        return Framed::Broken(Refusal::Truncated(0));
+        return refuse(Refusal::Truncated(0));
     }
     if plan[0] != 1 {
-        return Framed::Broken(Refusal::UnknownEdition);
+        return refuse(Refusal::UnknownEdition);
     }
     read_sections(plan)
 }

@@ -1,9 +1,6 @@
-// The layout of plans: bytes as numbers, checks in a row, where the seven sections end, and the sections that declare.
-pub mod bytes;
+// The layout of plans: where the seven sections end, the checks of the sections that declare, and cells of a plan.
 pub mod cells;
 pub mod frame;
-pub mod lookup;
 pub mod maps;
-pub mod outcomes;
 pub mod regions;
 pub mod supplied;

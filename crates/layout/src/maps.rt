@@ -1,20 +1,19 @@
 // Section 2, maps: "source region, target region, 0 partial or 1 total".
-use crate::bytes::byte_at;
-use crate::outcomes::require;
 use model::Outcome;
 use model::Refusal;
+use primitives::bytes::byte_at;
+use primitives::outcomes::require;
 ghost use mathlib.Core.Path.{_≡_};
-ghost use mathlib.Core.List.{[]};
 ghost use Prim.Native.Nat.{_<_, _/_};
 ghost use lib.ListN.{length};
+ghost use Rattle.model.specs.Layout.{Plan};
 ghost use Rattle.model.specs.Declarations.{mapCheck};
-ghost use Rattle.layout.specs.Parts.{parts};
-ghost use Rattle.layout.specs.Declarations.{mapsCheck};
+ghost use Rattle.layout.specs.Declarations.{MapDeclarations, mapsCheck};
 
 // Whether a map leads from a region to a region and is partial or total.
 fn check_map(regions: &[u8], maps: &[u8], map: usize) -> Outcome
     requires { ⌜ map < length (now maps) / 3 ⌝ }
-    ensures { λ r. ⌜ r ≡ mapCheck (parts (now (regions .entry)) (now (maps .entry)) [] [] [] [] []) map ⌝ }
+    ensures { λ r. ⌜ ((P : Plan) → MapDeclarations P (now (regions .entry)) (now (maps .entry)) → r ≡ mapCheck P map) ⌝ }
 {
     let source = byte_at(maps, map * 3);
     let target = byte_at(maps, map * 3 + 1);
@@ -28,7 +27,7 @@ fn check_map(regions: &[u8], maps: &[u8], map: usize) -> Outcome
 
 // The records of section 2, in order.
 pub fn check_maps(regions: &[u8], maps: &[u8]) -> Outcome
-    ensures { λ r. ⌜ r ≡ mapsCheck (parts (now (regions .entry)) (now (maps .entry)) [] [] [] [] []) ⌝ }
+    ensures { λ r. ⌜ ((P : Plan) → MapDeclarations P (now (regions .entry)) (now (maps .entry)) → r ≡ mapsCheck P) ⌝ }
 {
     let mut map = 0;
     while map < maps.len() / 3 {

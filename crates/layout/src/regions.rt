@@ -1,20 +1,19 @@
 // Section 1, regions: "number of fields, 1 to 8".
-use crate::bytes::byte_at;
-use crate::outcomes::require;
 use model::Outcome;
 use model::Refusal;
+use primitives::bytes::byte_at;
+use primitives::outcomes::require;
 ghost use mathlib.Core.Path.{_≡_};
-ghost use mathlib.Core.List.{[]};
 ghost use Prim.Native.Nat.{_<_};
 ghost use lib.ListN.{length};
+ghost use Rattle.model.specs.Layout.{Plan};
 ghost use Rattle.model.specs.Declarations.{regionCheck};
-ghost use Rattle.layout.specs.Parts.{parts};
 ghost use Rattle.layout.specs.Declarations.{regionsCheck};
 
 // Whether a region has 1 to 8 fields.
 fn check_region(regions: &[u8], region: usize) -> Outcome
     requires { ⌜ region < length (now regions) ⌝ }
-    ensures { λ r. ⌜ r ≡ regionCheck (parts (now (regions .entry)) [] [] [] [] [] []) region ⌝ }
+    ensures { λ r. ⌜ ((P : Plan) → P .regions ≡ now (regions .entry) → r ≡ regionCheck P region) ⌝ }
 {
     let fields = byte_at(regions, region);
     require(
@@ -25,7 +24,7 @@ fn check_region(regions: &[u8], region: usize) -> Outcome
 
 // The records of section 1, in order.
 pub fn check_regions(regions: &[u8]) -> Outcome
-    ensures { λ r. ⌜ r ≡ regionsCheck (parts (now (regions .entry)) [] [] [] [] [] []) ⌝ }
+    ensures { λ r. ⌜ ((P : Plan) → P .regions ≡ now (regions .entry) → r ≡ regionsCheck P) ⌝ }
 {
     let mut region = 0;
     while region < regions.len() {

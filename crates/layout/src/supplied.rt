@@ -1,20 +1,19 @@
 // Section 3, supplied partitions: "region, flags: 1 disjoint, 2 complete, 3 both, 0 neither".
-use crate::bytes::byte_at;
-use crate::outcomes::require;
 use model::Outcome;
 use model::Refusal;
+use primitives::bytes::byte_at;
+use primitives::outcomes::require;
 ghost use mathlib.Core.Path.{_≡_};
-ghost use mathlib.Core.List.{[]};
 ghost use Prim.Native.Nat.{_<_, _/_};
 ghost use lib.ListN.{length};
+ghost use Rattle.model.specs.Layout.{Plan};
 ghost use Rattle.model.specs.Declarations.{suppliedCheck};
-ghost use Rattle.layout.specs.Parts.{parts};
-ghost use Rattle.layout.specs.Declarations.{partitionsCheck};
+ghost use Rattle.layout.specs.Declarations.{SuppliedDeclarations, partitionsCheck};
 
 // Whether a supplied partition is of a region and its flags are known.
 fn check_partition(regions: &[u8], supplied: &[u8], partition: usize) -> Outcome
     requires { ⌜ partition < length (now supplied) / 2 ⌝ }
-    ensures { λ r. ⌜ r ≡ suppliedCheck (parts (now (regions .entry)) [] (now (supplied .entry)) [] [] [] []) partition ⌝ }
+    ensures { λ r. ⌜ ((P : Plan) → SuppliedDeclarations P (now (regions .entry)) (now (supplied .entry)) → r ≡ suppliedCheck P partition) ⌝ }
 {
     let region = byte_at(supplied, partition * 2);
     let flags = byte_at(supplied, partition * 2 + 1);
@@ -26,7 +25,7 @@ fn check_partition(regions: &[u8], supplied: &[u8], partition: usize) -> Outcome
 
 // The records of section 3, in order.
 pub fn check_supplied(regions: &[u8], supplied: &[u8]) -> Outcome
-    ensures { λ r. ⌜ r ≡ partitionsCheck (parts (now (regions .entry)) [] (now (supplied .entry)) [] [] [] []) ⌝ }
+    ensures { λ r. ⌜ ((P : Plan) → SuppliedDeclarations P (now (regions .entry)) (now (supplied .entry)) → r ≡ partitionsCheck P) ⌝ }
 {
     let mut partition = 0;
     while partition < supplied.len() / 2 {

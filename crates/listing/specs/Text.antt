@@ -1,11 +1,11 @@
 -- The text of a report, as ASCII: the line of an answer, and the lines of the pieces.
-use Prim.Native.Nat.{ℕ, zero, suc, _+_, _*_, _/_, _%_, _≤_}
+use Prim.Native.Nat.{ℕ, zero, suc, _+_, _/_, _%_, _≤_}
 use mathlib.Core.Path.{_≡_}
 use mathlib.Core.List.{List, [], _∷_, _++_}
 use lib.ListN.{length, take}
 use Rattle.model.specs.Tests.{_==_, _<?_, pick}
 use Rattle.model.specs.Words.{holds}
-use Rattle.model.specs.Answers.{Report}
+use Rattle.model.specs.declared.Report.{Report}
 
 abbrev pub Text : Type 0
 Text = List ℕ
@@ -23,7 +23,7 @@ decimal n = digitsWithin 20 n
 unfoldable pub spaced : ℕ → Text
 spaced n = 32 ∷ decimal n
 
--- "accepted", then "symbols, nodes, steps"; "A refusal prints only `refused`, number, place"
+-- "accepted", then "symbols, nodes, steps"; "A refusal prints only", then the word, number and place
 unfoldable pub acceptedText : ℕ → ℕ → ℕ → Text
 acceptedText symbols nodes steps =
     (97 ∷ 99 ∷ 99 ∷ 101 ∷ 112 ∷ 116 ∷ 101 ∷ 100 ∷ []) ++ spaced symbols ++ spaced nodes ++ spaced steps ++ (10 ∷ [])
@@ -51,7 +51,7 @@ pub record Appended (before after : Text) (at : ℕ) (text : Text) (end : ℕ) :
   pub ends : end ≡ at + length text
   pub shows : take end after ≡ take at before ++ text
 
--- the line starts with this text, which ends at `end`; both lengths are report so that `&line[..end]` needs no proof
+-- the line starts with this text, which ends at `end`; both lengths are given so that `&line[..end]` needs no proof
 pub record Shown (line text : Text) (end : ℕ) : Type 0 where
   pub shows : take end line ≡ text
   pub inside : end ≤ length line

@@ -3,7 +3,6 @@ mod lines;
 mod members;
 mod text;
 
-use layout::cells::piece_count;
 use lines::answer_line;
 use lines::piece_line;
 use model::Answer;
@@ -24,10 +23,9 @@ fn print_piece(number: usize, piece: usize, words: &[u64], first: usize) -> bool
 }
 
 // Writes the lines of a node's pieces, each with a number in front.
-pub fn print_node(number: usize, node: usize, data: &[u8], words: &[u64]) -> bool
-    requires { ⌜ node < 256 ⌝ }
+pub fn print_node(number: usize, node: usize, pieces: usize, words: &[u64]) -> bool
+    requires { ⌜ (node < 256) × (pieces < 256) ⌝ }
 {
-    let pieces = piece_count(data);
     let mut piece = 0;
     while piece < pieces {
         if !print_piece(number, piece, words, (node * pieces + piece) * 8) {

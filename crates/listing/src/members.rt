@@ -26,7 +26,7 @@ fn is_member(words: &[u64], first: usize, element: usize) -> bool
     ensures { λ r. ⌜ r ≡ holds (now (words .entry)) first element ⌝ }
 {
     let word = word_at(words, first, element / 64);
-    (word >> (element % 64)) % 2 == 1
+    ((word >> (element % 64)) & 1) == 1
 }
 
 // Puts an element behind the first `at` bytes, if the set holds it.

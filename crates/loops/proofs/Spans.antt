@@ -10,7 +10,7 @@ use Rattle.model.specs.Tests.{Is, any, every, pick}
 use Rattle.model.specs.Layout.{Plan, statementCount}
 use Rattle.model.specs.Statements.{opens, loop, loopBefore}
 use Rattle.model.proofs.Tests.{falsum, fails, refuted, pick-true, pick-false, among, every-at, every-of}
-use Rattle.layout.proofs.Searches.{none-of}
+use Rattle.primitives.proofs.Searches.{none-of}
 use Rattle.loops.specs.Loops.{LoopSpan}
 
 -- a number is below a bound or not

@@ -10,7 +10,7 @@ use lib.Dec.{eqb, ltb}
 use borrow.Author.Tests.{ltb-true, ltb-false, eqb-true, eqb-false}
 use Rattle.model.specs.Recursion.{below}
 use Rattle.model.proofs.Recursion.{below-at}
-use Rattle.layout.proofs.Filling.{below-past}
+use Rattle.primitives.proofs.Filling.{below-past}
 use Rattle.loops.specs.Tables.{Table}
 
 module _ {A : Type 0} {default : A} {s : ℕ} {table : List A} {value : ℕ → A} where

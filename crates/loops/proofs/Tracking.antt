@@ -23,7 +23,7 @@ use Rattle.model.proofs.Outcomes.{never, then-pass, require-pass, scan-start, s
 use Rattle.model.proofs.Recursion.{course-law}
 use Rattle.loops.specs.Tables.{Table, regionAt, centeredAt, variablesAfter, Tracks, StatementTables, Fits, Entered, StatementsRead}
 use Rattle.loops.specs.declared.statements.Variables.{Variables}
-use Rattle.layout.proofs.Filling.{zeros}
+use Rattle.primitives.proofs.Filling.{zeros}
 use Rattle.loops.proofs.Stored.{stored, earlier-holds}
 
 -- a list after a store, at every place

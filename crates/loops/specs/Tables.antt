@@ -13,7 +13,7 @@ use Rattle.model.specs.declared.StatementKind.{StatementKind}
 use Rattle.model.specs.declared.Outcome.{Outcome}
 use Rattle.model.specs.declared.Outcome.the-variants.{Pass}
 use Rattle.loops.specs.declared.statements.Variables.{Variables}
-use Rattle.layout.specs.Parts.{parts}
+use Rattle.primitives.specs.Parts.{parts}
 
 -- the plan of the sections that section 4 depends on; of the maps and the statements; of the statements alone
 abbrev pub loopParts : Bytes → Bytes → Bytes → Plan

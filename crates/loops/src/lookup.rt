@@ -1,5 +1,5 @@
 // Entries of tables by statement, of the statements before one.
-use layout::bytes::number_of;
+use primitives::bytes::number_of;
 ghost use mathlib.Core.Path.{_≡_};
 ghost use mathlib.Core.Bool.{false};
 ghost use Prim.Native.Nat.{_<_};

@@ -1,48 +1,85 @@
 -- No value of an answer is free: what it tells determines it. Assumes nothing.
-use Prim.Native.Nat.{ℕ}
+use Prim.Native.Nat.{ℕ, zero, suc, _≤_, _<_}
 use mathlib.Core.Path.{_≡_, refl, sym, _∙_, ap}
-use mathlib.Core.List.{List, [], _∷_}
-use Rattle.model.specs.Tests.{pick, _==_}
-use Rattle.model.specs.Answers.{Report, refusalReport, report}
+use mathlib.Core.Logic.{inl, inr}
+use mathlib.Core.List.{List, [], _∷_, map}
+use native.Mathlib.Omega.{arith}
+use lib.ListN.{getD, List·getD-eq-default}
+use Rattle.model.specs.Tests.{_<?_}
+use Rattle.model.specs.Answers.{refusal, refusalReport, report}
 use Rattle.model.specs.declared.Refusal.{Refusal}
 use Rattle.model.specs.declared.Refusal.the-variants.{Truncated, UnknownEdition, TrailingBytes, InvalidLength, InvalidRecord, RegionMismatch, DuplicateNode, NotParallelizable, AssignmentCount, UnlicensedStep, UnmetNeed, InvalidData, InvalidEntry, InvalidPartition, OutputTooSmall}
+use Rattle.model.specs.declared.Outcome.{Outcome}
+use Rattle.model.specs.declared.Outcome.the-variants.{Pass, Refuse}
 use Rattle.model.specs.declared.Answer.{Answer}
 use Rattle.model.specs.declared.Answer.the-variants.{Accepted, Refused}
+use Rattle.model.proofs.Tests.{split, lacks, less, less! }
 
--- the refusals, each from its place
-abbrev refusals : List (ℕ → Refusal)
+-- the refusals in the order of their numbers, each by its place
+unfoldable refusals : List (ℕ → Refusal)
 refusals =
     Truncated ∷ (λ p. UnknownEdition) ∷ TrailingBytes ∷ InvalidLength ∷ InvalidRecord ∷ RegionMismatch ∷ DuplicateNode ∷ NotParallelizable ∷
     AssignmentCount ∷ UnlicensedStep ∷ UnmetNeed ∷ (λ p. InvalidData) ∷ InvalidEntry ∷ InvalidPartition ∷ OutputTooSmall ∷ []
 
--- the one of them that has the number
-unfoldable numbered : List (ℕ → Refusal) → Report → Refusal
-numbered [] t = UnknownEdition
-numbered (r ∷ rest) t = let others = numbered rest t in pick (refusalReport (r (t .place)) .number == t .number) (r (t .place)) others
+-- the refusal of a number at a place; 0 and the numbers past the last stand for none
+unfoldable refusalAt : ℕ → ℕ → Outcome
+refusalAt n p = getD (Pass ∷ map (λ make. Refuse (make p)) refusals) n Pass
 
--- the answer that tells this
-unfoldable reporting : Report → Answer
-reporting t =
-    let refused = Refused (numbered refusals t) in pick (t .number == 0) (Accepted (t .symbols) (t .nodes) (t .steps)) refused
+-- what a refusal tells has no counts, and its number and place stand for it
+abbrev Listed : Refusal → Type 0
+Listed r =
+    (refusalReport r ≡ refusal (refusalReport r .number) (refusalReport r .place))
+    × (refusalAt (refusalReport r .number) (refusalReport r .place) ≡ Refuse r)
 
-reported-back : (a : Answer) → reporting (report a) ≡ a
-unfolding report refusalReport reporting numbered pick _==_
-reported-back (Accepted s n t) = refl
-reported-back (Refused (Truncated p)) = refl
-reported-back (Refused UnknownEdition) = refl
-reported-back (Refused (TrailingBytes p)) = refl
-reported-back (Refused (InvalidLength p)) = refl
-reported-back (Refused (InvalidRecord p)) = refl
-reported-back (Refused (RegionMismatch p)) = refl
-reported-back (Refused (DuplicateNode p)) = refl
-reported-back (Refused (NotParallelizable p)) = refl
-reported-back (Refused (AssignmentCount p)) = refl
-reported-back (Refused (UnlicensedStep p)) = refl
-reported-back (Refused (UnmetNeed p)) = refl
-reported-back (Refused InvalidData) = refl
-reported-back (Refused (InvalidEntry p)) = refl
-reported-back (Refused (InvalidPartition p)) = refl
-reported-back (Refused (OutputTooSmall p)) = refl
+listed : (r : Refusal) → Listed r
+unfolding refusals refusalAt
+listed (Truncated p) = (refl, refl)
+listed UnknownEdition = (refl, refl)
+listed (TrailingBytes p) = (refl, refl)
+listed (InvalidLength p) = (refl, refl)
+listed (InvalidRecord p) = (refl, refl)
+listed (RegionMismatch p) = (refl, refl)
+listed (DuplicateNode p) = (refl, refl)
+listed (NotParallelizable p) = (refl, refl)
+listed (AssignmentCount p) = (refl, refl)
+listed (UnlicensedStep p) = (refl, refl)
+listed (UnmetNeed p) = (refl, refl)
+listed InvalidData = (refl, refl)
+listed (InvalidEntry p) = (refl, refl)
+listed (InvalidPartition p) = (refl, refl)
+listed (OutputTooSmall p) = (refl, refl)
+
+-- a number that stands for a refusal is one of the table's: 0 is left to acceptance, 255 to no answer of these
+number-of : (r : Refusal) (n p : ℕ) → refusalAt n p ≡ Refuse r → (1 ≤ n) × (n < 255)
+unfolding refusalAt refusals
+number-of r zero p e = let z : _≡_ {A = ℕ} 0 1 = cc in absurd (omega arith)
+number-of r (suc n) p e =
+    elim (split (suc n <? 255)) [
+      | inl few ↦ (omega arith, less few)
+      | inr many ↦
+          let far : suc n < 255 → ⊥ = λ h. lacks many (less! h) in
+          let none : Pass ≡ Refuse r = sym (List·getD-eq-default (map (λ make. Refuse (make p)) refusals) Pass {n = n} (omega arith)) ∙ e in
+          let z : _≡_ {A = ℕ} 0 1 = cc in
+          absurd (omega arith)
+    ]
+
+module _ (r : Refusal) where
+  stands : refusalAt (refusalReport r .number) (refusalReport r .place) ≡ Refuse r
+  stands = listed r .1
+
+  pub no-counts : refusalReport r ≡ refusal (refusalReport r .number) (refusalReport r .place)
+  no-counts = listed r .0
+
+  pub number-in-table : (1 ≤ refusalReport r .number) × (refusalReport r .number < 255)
+  number-in-table = number-of r _ _ stands
+
+pub refusal-injective : (a b : Refusal) → refusalReport a ≡ refusalReport b → a ≡ b
+refusal-injective a b e = let both : Refuse a ≡ Refuse b = sym (stands a) ∙ ap (λ t. refusalAt (t .number) (t .place)) e ∙ stands b in cc
 
 pub report-injective : (a b : Answer) → report a ≡ report b → a ≡ b
-report-injective a b e = sym (reported-back a) ∙ ap reporting e ∙ reported-back b
+unfolding report
+report-injective (Accepted s n t) (Accepted s' n' t') e =
+    let symbols = ap (λ t. t .symbols) e in let nodes = ap (λ t. t .nodes) e in let steps = ap (λ t. t .steps) e in rw (symbols, nodes, steps)
+report-injective (Accepted s n t) (Refused b) e = absurd (omega (arith, ap (λ t. t .number) e, number-in-table b .0))
+report-injective (Refused a) (Accepted s n t) e = absurd (omega (arith, ap (λ t. t .number) e, number-in-table a .0))
+report-injective (Refused a) (Refused b) e = ap Refused (refusal-injective a b e)

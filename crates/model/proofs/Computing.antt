@@ -1,6 +1,6 @@
 -- The definitions of a verdict and of an evaluation, for proofs by computation: `unfolding definitions` opens them all. Assumes nothing.
 use Rattle.model.specs.Tests.{_and_, _or_, non, _==_, _<?_, _≤?_, any, every, pick, first}
-use Rattle.model.specs.Answers.{report, refusalReport}
+use Rattle.model.specs.Answers.{report}
 use Rattle.model.specs.Outcomes.{require, _then_, scan, conclude}
 use Rattle.model.specs.Bytes.{boundary, body}
 use Rattle.model.specs.Recursion.{below, levels, course}
@@ -20,7 +20,7 @@ use Rattle.model.specs.Evaluation.{evaluationCheck, evaluation, nodeWord
 
 unfoldable pub definitions : Unit {0}
 unfolding
-    report refusalReport verdict planCheck layoutCheck sectionCheck shapeOf shapes boundary body conclude require _then_ scan
+    report verdict planCheck layoutCheck sectionCheck shapeOf shapes boundary body conclude require _then_ scan
     recordsCheck regionCheck mapCheck suppliedCheck statementCheck loopCheck nodeCheck assignmentCountCheck assignmentCheck stepCheck needCheck
     _and_ _or_ non _==_ _<?_ _≤?_ any every pick first below levels course
     kindOf opensLoop definesVariable accessOf isAccess kind opens defines accesses loopBefore variables definition operandBy operand

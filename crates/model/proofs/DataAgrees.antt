@@ -193,7 +193,7 @@ module _ (P : Plan) (d : Bytes) (r : Refusal) where
   DataGiven = DataGivenWhen P d (refusalReport r .number) (refusalReport r .place)
 
   entries-refuse : entriesChecked P d ≡ Refuse r → DataGiven
-  unfolding entriesCheck refusalReport
+  unfolding entriesCheck
   entries-refuse e =
       let w = scan-refuse _ _ r e in
       let v = scan-refuse _ _ r (w .refuses) in
@@ -202,14 +202,13 @@ module _ (P : Plan) (d : Bytes) (r : Refusal) where
       lacks (f .0) (entry-fits P (dataOf d) (w .at) (v .at) .1 s)))
 
   partitions-refuse : partitionsChecked P d ≡ Refuse r → DataGiven
-  unfolding refusalReport
   partitions-refuse e =
       let w = scan-refuse _ _ r e in
       let f = require-refuse _ _ r (w .refuses) in
       rw (← f .1) (invalid-partition refl (omega (arith, w .inside)) (λ s. lacks (f .0) (supplied-right P (dataOf d) (w .at) .1 s)))
 
   pub data-refuses : dataCheck P d ≡ Refuse r → DataGiven
-  unfolding dataCheck refusalReport
+  unfolding dataCheck
   data-refuses h =
       then-cases _ _ r h
       (λ e. let f = require-refuse _ _ r e in rw (← f .1) (invalid-data refl refl (λ w. lacks (f .0) (frame-fits P d .1 w))))

@@ -15,7 +15,6 @@ use Rattle.model.specs.Nodes.{nodeRegion}
 use Rattle.model.specs.Needs.{hasSymbol, symbol, symbolNode, symbolRegion, assignmentCountCheck, assignmentCheck, needCheck}
 use Rattle.model.specs.LoopRelations.{HasSymbol, SymbolsBefore, SymbolRegion, NodeRegion}
 use Rattle.model.specs.PlainPlan.{StatementFormed, StatementAgrees, ParallelizableLoop, NodeFormed, supplied-formed, equal-formed, operands-formed, map-formed, SameNode, StepFormed, NeedsConcluded}
-use Rattle.model.specs.Answers.{refusalReport}
 use Rattle.model.specs.GivenWhen.{RecordInvalid, RegionsDisagree, invalid-record, region-mismatch, not-parallelizable, assignment-count, unmet-need}
 use Rattle.model.specs.declared.Refusal.{Refusal}
 use Rattle.model.specs.declared.Outcome.the-variants.{Pass, Refuse}
@@ -203,7 +202,7 @@ module _ (P : Plan) where
 -- where a check refuses
 module _ (p : Bytes) (r : Refusal) where
   pub statements-refuse : scan (statementCheck (planOf p)) 0 (statementCount (planOf p)) ≡ Refuse r → PlanGiven p r
-  unfolding statementCheck refusalReport
+  unfolding statementCheck
   statements-refuse h =
       let w = scan-refuse _ _ r h in
       let lt : w .at < statementCount (planOf p) = omega (arith, w .inside) in
@@ -217,7 +216,7 @@ module _ (p : Bytes) (r : Refusal) where
 
   pub loops-refuse :
       StatementsRead (planOf p) → scan (loopCheck (planOf p)) 0 (statementCount (planOf p)) ≡ Refuse r → PlanGiven p r
-  unfolding loopCheck refusalReport
+  unfolding loopCheck
   loops-refuse R h =
       let w = scan-refuse _ _ r h in
       let lt : w .at < statementCount (planOf p) = omega (arith, w .inside) in
@@ -227,7 +226,7 @@ module _ (p : Bytes) (r : Refusal) where
       rw (← f .1) (not-parallelizable refl lt (opens-is (planOf p) (w .at) .0 (u .0)) (λ q. u .1 (agrees .1 q)))
 
   pub assignment-count-refuses : assignmentCountCheck (planOf p) ≡ Refuse r → PlanGiven p r
-  unfolding assignmentCountCheck refusalReport
+  unfolding assignmentCountCheck
   assignment-count-refuses h =
       let f = require-refuse _ _ r h in
       rw (← f .1) (assignment-count refl (symbols-before (planOf p) (statementCount (planOf p))) (λ e. lacks (f .0) (same! e)))
@@ -235,7 +234,7 @@ module _ (p : Bytes) (r : Refusal) where
   pub assignments-refuse :
       StatementsRead (planOf p) → scan (assignmentCheck (planOf p)) 0 (statementCount (planOf p)) ≡ Refuse r →
       PlanGiven p r
-  unfolding assignmentCheck refusalReport
+  unfolding assignmentCheck
   assignments-refuse R h =
       let w = scan-refuse _ _ r h in
       let lt : w .at < statementCount (planOf p) = omega (arith, w .inside) in
@@ -257,7 +256,7 @@ module _ (p : Bytes) (r : Refusal) where
       StatementsRead (planOf p) → NodesRead (planOf p) → AssignmentsRead (planOf p) →
       ((t : ℕ) → t < stepCount (planOf p) → StepFormed (planOf p) t) →
       scan (needCheck (planOf p)) 0 (statementCount (planOf p)) ≡ Refuse r → PlanGiven p r
-  unfolding needCheck refusalReport
+  unfolding needCheck
   needs-refuse R N A T h =
       let w = scan-refuse _ _ r h in
       let lt : w .at < statementCount (planOf p) = omega (arith, w .inside) in

@@ -4,7 +4,7 @@ use Prim.Native.Nat.{ℕ, zero, suc}
 use mathlib.Core.Path.{_≡_, refl}
 use mathlib.Core.List.{List, [], _∷_, _++_, map}
 use mathlib.Core.Bool.{Bool, true, false}
-use Rattle.model.specs.Answers.{Report, report, refusal}
+use Rattle.model.specs.Answers.{report, refusal}
 use Rattle.model.specs.Bytes.{Bytes}
 use Rattle.model.specs.Partitions.{contiguous, equalStart}
 use Rattle.model.specs.Layout.{planOf}
@@ -13,6 +13,7 @@ use Rattle.model.specs.DataSets.{dataOf, pieces, size, dataCheck}
 use Rattle.model.specs.Membership.{member}
 use Rattle.model.specs.Evaluation.{evaluation}
 use Rattle.model.specs.declared.Outcome.the-variants.{Pass}
+use Rattle.model.specs.declared.Report.{Report}
 use Rattle.model.proofs.Computing.{definitions}
 use Rattle.model.proofs.FiledPlans.{planA, planA-stepless, planA-written, planB, planB-partial, dataD}
 

@@ -67,11 +67,11 @@ record-of k r l = omega arith
 
 -- where the checks of single items refuse
 invalid-placed : (b : Bool) (k r : ℕ) → r < 256 → Placed (require b (InvalidRecord (k * 256 + r))) (10 * k) r
-unfolding turn turns refusalReport
+unfolding turn turns
 invalid-placed b k r l = placed-require b _ (rw (section-of k r l), record-of k r l)
 
 mismatch-placed : (b : Bool) (k r : ℕ) → r < 256 → Placed (require b (RegionMismatch (k * 256 + r))) (10 * k) r
-unfolding turn turns refusalReport
+unfolding turn turns
 mismatch-placed b k r l = placed-require b _ (rw (section-of k r l), record-of k r l)
 
 -- the turn of a section's 1
@@ -86,7 +86,7 @@ section-first t place n stage item e =
     let (s, i, c) = section-turn place n e in check-passed (s ∙ sym stage) (i ∙ sym item) (omega arith)
 
 section-placed : (p : Bytes) (n : ℕ) → Placed (sectionCheck p n) 3 (suc n)
-unfolding sectionCheck refusalReport
+unfolding sectionCheck
 section-placed p n =
     placed-then _ _ (placed-require _ _ (let w = section-turn _ n (omega arith) in (w .0, w .1))) (placed-require _ _ (unfold turn turns in (refl, refl)))
 
@@ -108,11 +108,11 @@ module _ (P : Plan) where
   statement-placed s l = placed-then _ _ (invalid-placed _ 4 s l) (mismatch-placed _ 4 s l)
 
   loop-placed : (f : ℕ) → Placed (loopCheck P f) (turn 8 f .stage) f
-  unfolding loopCheck refusalReport turn turns
+  unfolding loopCheck turn turns
   loop-placed f = placed-require _ _ (refl, refl)
 
   node-placed : (j : ℕ) → j < 256 → Placed (nodeCheck P j) 50 j
-  unfolding nodeCheck refusalReport turn turns
+  unfolding nodeCheck turn turns
   node-placed j l = placed-then _ _ (invalid-placed _ 5 j l) (placed-then _ _ (mismatch-placed _ 5 j l) (placed-require _ _ (refl, refl)))
 
   assignment-placed : (s : ℕ) → s < 256 → Placed (assignmentCheck P s) 60 (symbol P s)
@@ -122,11 +122,11 @@ module _ (P : Plan) where
       placed-then _ _ (invalid-placed _ 6 (symbol P s) (omega arith)) (mismatch-placed _ 6 (symbol P s) (omega arith))
 
   step-placed : (t : ℕ) → t < 256 → Placed (stepCheck P t) 70 t
-  unfolding stepCheck refusalReport turn turns
+  unfolding stepCheck turn turns
   step-placed t l = placed-then _ _ (invalid-placed _ 7 t l) (placed-require _ _ (refl, refl))
 
   need-placed : (s : ℕ) → Placed (needCheck P s) (turn 11 0 .stage) (symbol P s)
-  unfolding needCheck refusalReport turn turns
+  unfolding needCheck turn turns
   need-placed s = placed-require _ _ (refl, refl)
 
   -- what sections 6 and the needs refuse for is a symbol's
@@ -200,7 +200,7 @@ module _ (p d : Bytes) (lent : ℕ) where
   Located j = ((i : ℕ) → i < j → outcomeAt i ≡ Pass) → (s : Refusal) → outcomeAt j ≡ Refuse s → turnOf s .stage ≡ numberAt j
 
   located : Firsts Located 0 18
-  unfolding turn turns pick _==_ outcomeAt numberAt stages assignmentCountCheck entriesCheck refusalReport
+  unfolding turn turns pick _==_ outcomeAt numberAt stages assignmentCountCheck entriesCheck
   located =
       (λ b. one _ _ refl)
       also (λ b. one _ _ refl)
@@ -324,26 +324,26 @@ module _ (p d : Bytes) (lent : ℕ) where
 
   -- the layout
   some-byte : Clear 1 0 → 1 ≤ length p
-  unfolding refusalReport turn turns pick _==_ outcomeAt numberAt stages
+  unfolding turn turns pick _==_ outcomeAt numberAt stages
   some-byte h = most (clear-test _ _ (reached _ h 0 (omega arith) (omega arith) .here) not-itself)
 
   section-ends : (n : ℕ) → n < 7 → Clear 1 (suc n) → boundary p (suc n) ≤ length p
-  unfolding sectionCheck refusalReport
+  unfolding sectionCheck
   section-ends n l h =
       let at = section-turn (suc n) n refl in
       let R = section-reached _ h n (at .0) (at .1) l in
       most (both (clear-both _ _ _ (R .here) (section-first _ _ n (at .0) (at .1) (omega arith)) .0) .1)
 
   edition-known : Clear 2 0 → byte p 0 ≡ 1
-  unfolding refusalReport turn turns pick _==_ outcomeAt numberAt stages
+  unfolding turn turns pick _==_ outcomeAt numberAt stages
   edition-known h = same (clear-test _ _ (reached _ h 1 (omega arith) (omega arith) .here) not-itself)
 
   nothing-after : Clear 3 (boundary p 7) → length p ≤ boundary p 7
-  unfolding refusalReport turn turns pick _==_ outcomeAt numberAt stages
+  unfolding turn turns pick _==_ outcomeAt numberAt stages
   nothing-after h = most (clear-test _ _ (reached _ h 3 (omega arith) (omega arith) .here) not-itself)
 
   section-measured : (n : ℕ) → n < 7 → Clear 4 (suc n) → SectionLength (suc n) (length (body p n))
-  unfolding sectionCheck measured refusalReport turn turns
+  unfolding sectionCheck measured turn turns
   section-measured n l h =
       let R = section-reached _ h n refl refl l in
       let (ends, rest) = clear-both _ _ _ (R .here) (section-first _ _ n refl refl (omega arith)) in
@@ -352,7 +352,7 @@ module _ (p d : Bytes) (lent : ℕ) where
 
   -- sections 1 to 3
   region-clear : (r : ℕ) → r < regionCount (planOf p) → Clear 5 (1 * 256 + r) → (1 ≤ fields (planOf p) r) × (fields (planOf p) r ≤ 8)
-  unfolding regionCheck refusalReport turn turns
+  unfolding regionCheck turn turns
   region-clear r l h =
       let R = region-reached _ h r (at-place _ h 1 r (omega arith) refl refl) l in
       region-formed (planOf p) r .0 (required _ _ (clear-test _ _ (R .here) not-itself))
@@ -361,7 +361,7 @@ module _ (p d : Bytes) (lent : ℕ) where
       (m : ℕ) → m < mapCount (planOf p) → Clear 5 (2 * 256 + m) →
       (source (planOf p) m < regionCount (planOf p)) × (target (planOf p) m < regionCount (planOf p)) ×
       ((totality (planOf p) m ≡ 0) ⊎ (totality (planOf p) m ≡ 1))
-  unfolding mapCheck refusalReport turn turns
+  unfolding mapCheck turn turns
   map-clear m l h =
       let R = map-reached _ h m (at-place _ h 2 m (omega arith) refl refl) l in
       map-formed (planOf p) m .0 (required _ _ (clear-test _ _ (R .here) not-itself))
@@ -369,7 +369,7 @@ module _ (p d : Bytes) (lent : ℕ) where
   supplied-clear :
       (k : ℕ) → k < suppliedCount (planOf p) → Clear 5 (3 * 256 + k) →
       (suppliedRegion (planOf p) k < regionCount (planOf p)) × (suppliedFlags (planOf p) k ≤ 3)
-  unfolding suppliedCheck refusalReport turn turns
+  unfolding suppliedCheck turn turns
   supplied-clear k l h =
       let R = supplied-reached _ h k (at-place _ h 3 k (omega arith) refl refl) l in
       supplied-formed (planOf p) k .0 (required _ _ (clear-test _ _ (R .here) not-itself))
@@ -379,13 +379,13 @@ module _ (p d : Bytes) (lent : ℕ) where
   formed-before R i l = statement-passes (planOf p) i .0 (R .before i l) .0
 
   statement-formed-clear : (s : ℕ) → s < statementCount (planOf p) → Clear 5 (4 * 256 + s) → StatementFormed (planOf p) s
-  unfolding statementCheck refusalReport turn turns
+  unfolding statementCheck turn turns
   statement-formed-clear s l h =
       let R = statement-reached _ h s (at-place _ h 4 s (omega arith) refl refl) l in
       statement-formed (planOf p) s (formed-before R) .0 (clear-both _ _ _ (R .here) not-itself .0)
 
   statement-agrees-clear : (s : ℕ) → s < statementCount (planOf p) → Clear 6 (4 * 256 + s) → StatementAgrees (planOf p) s
-  unfolding statementCheck refusalReport turn turns
+  unfolding statementCheck turn turns
   statement-agrees-clear s l h =
       let R = statement-reached _ h s (at-place _ h 4 s (omega arith) refl refl) l in
       let (formed, rest) = clear-both _ _ _ (R .here) (check-passed refl refl (omega arith)) in
@@ -393,7 +393,7 @@ module _ (p d : Bytes) (lent : ℕ) where
 
   loop-clear :
       (f : ℕ) → f < statementCount (planOf p) → statementKind (planOf p) f ≡ 0 → Clear 8 f → ParallelizableLoop (planOf p) f
-  unfolding loopCheck refusalReport turn turns pick _==_ outcomeAt numberAt stages
+  unfolding loopCheck turn turns pick _==_ outcomeAt numberAt stages
   loop-clear f l e h =
       let R = clear-items _ (loopCheck (planOf p)) _ (turn 8 f .stage) f (λ i. i) (reached _ h 8 (omega arith) (omega arith) .here) l refl
       (λ i li. loop-placed (planOf p) i) (λ i s li q. li) in
@@ -405,20 +405,20 @@ module _ (p d : Bytes) (lent : ℕ) where
   nodes-before R i l = node-formed (planOf p) i .0 (node-passes (planOf p) i (R .before i l) .0)
 
   node-formed-clear : (j : ℕ) → j < nodeCount (planOf p) → Clear 5 (5 * 256 + j) → NodeFormed (planOf p) j
-  unfolding nodeCheck refusalReport turn turns
+  unfolding nodeCheck turn turns
   node-formed-clear j l h =
       let R = node-reached _ h j (at-place _ h 5 j (omega arith) refl refl) l in
       node-formed (planOf p) j .0 (clear-both _ _ _ (R .here) not-itself .0)
 
   node-agrees-clear : (j : ℕ) → j < nodeCount (planOf p) → Clear 6 (5 * 256 + j) → NodeAgrees (planOf p) j
-  unfolding nodeCheck refusalReport turn turns
+  unfolding nodeCheck turn turns
   node-agrees-clear j l h =
       let R = node-reached _ h j (at-place _ h 5 j (omega arith) refl refl) l in
       let (formed, rest) = clear-both _ _ _ (R .here) (check-passed refl refl (omega arith)) in
       node-agrees (planOf p) j (upto j (nodes-before R) (node-formed (planOf p) j .0 formed)) .0 (clear-both _ _ _ rest not-itself .0)
 
   node-new-clear : (j k : ℕ) → j < nodeCount (planOf p) → k < j → SameNode (planOf p) k j → Clear 7 j → ⊥
-  unfolding nodeCheck refusalReport turn turns
+  unfolding nodeCheck turn turns
   node-new-clear j k l lk w h =
       let few = limited _ h (omega arith) .few-nodes in
       let R = node-reached _ h j (omega arith, λ l. (refl, refl)) l in
@@ -430,14 +430,14 @@ module _ (p d : Bytes) (lent : ℕ) where
 
   -- section 6, and the count before it
   count-clear : (n : ℕ) → SymbolsBefore (planOf p) (statementCount (planOf p)) n → Clear 9 n → assignmentCount (planOf p) ≡ n
-  unfolding assignmentCountCheck refusalReport turn turns pick _==_ outcomeAt numberAt stages
+  unfolding assignmentCountCheck turn turns pick _==_ outcomeAt numberAt stages
   count-clear n w h =
       same (clear-test _ _ (reached _ h 10 (omega arith) (omega arith) .here) not-itself) ∙ symbol-computed (planOf p) w
 
   assigned-clear :
       (s : ℕ) → s < statementCount (planOf p) → HasSymbol (planOf p) s → Clear 5 (6 * 256 + symbol (planOf p) s) →
       symbolNode (planOf p) s < nodeCount (planOf p)
-  unfolding assignmentCheck refusalReport turn turns
+  unfolding assignmentCheck turn turns
   assigned-clear s l y h =
       let R = assignment-reached _ h s (at-place _ h 6 _ (omega arith) refl refl) l in
       less (implied (clear-both _ _ _ (R .here) not-itself .0) (has-symbol (planOf p) s .1 y))
@@ -445,7 +445,7 @@ module _ (p d : Bytes) (lent : ℕ) where
   assigned-region-clear :
       (s : ℕ) → s < statementCount (planOf p) → HasSymbol (planOf p) s → Clear 6 (6 * 256 + symbol (planOf p) s) →
       (r : ℕ) → SymbolRegion (planOf p) s r → NodeRegion (planOf p) (symbolNode (planOf p) s) r
-  unfolding assignmentCheck refusalReport turn turns pick _==_ numberAt stages
+  unfolding assignmentCheck turn turns pick _==_ numberAt stages
   assigned-region-clear s l y h =
       let at = at-place _ h 6 (symbol (planOf p) s) (omega arith) refl refl in
       let few = limited _ h (at .0) .few-statements in
@@ -458,7 +458,7 @@ module _ (p d : Bytes) (lent : ℕ) where
 
   -- section 7, and the needs
   step-formed-clear : (k : ℕ) → k < stepCount (planOf p) → Clear 5 (7 * 256 + k) → StepFormed (planOf p) k
-  unfolding stepCheck refusalReport turn turns
+  unfolding stepCheck turn turns
   step-formed-clear k l h =
       let R = step-reached _ h k (at-place _ h 7 k (omega arith) refl refl) l in
       step-formed (planOf p) k .0 (clear-both _ _ _ (R .here) not-itself .0)
@@ -466,7 +466,7 @@ module _ (p d : Bytes) (lent : ℕ) where
   licence-clear :
       (k : ℕ) → k < stepCount (planOf p) → Clear 10 k →
       Licence (planOf p) (stepLemma (planOf p) k) (stepX (planOf p) k) (stepY (planOf p) k) (stepP (planOf p) k) (stepQ (planOf p) k)
-  unfolding stepCheck refusalReport turn turns
+  unfolding stepCheck turn turns
   licence-clear k l h =
       let few = limited _ h (omega arith) .few-steps in
       let R = step-reached _ h k (omega arith, λ l. (refl, refl)) l in
@@ -476,7 +476,7 @@ module _ (p d : Bytes) (lent : ℕ) where
       step-licence (planOf p) k (upto k (λ i l. step-passes (planOf p) i (R .before i l) .0) formed) .0 (clear-test _ _ rest not-itself)
 
   needs-clear : (s : ℕ) → s < statementCount (planOf p) → Clear 11 (symbol (planOf p) s) → NeedsConcluded (planOf p) s
-  unfolding needCheck refusalReport turn turns pick _==_ outcomeAt numberAt stages
+  unfolding needCheck turn turns pick _==_ outcomeAt numberAt stages
   needs-clear s l h =
       let R = need-reached _ h s refl refl l in
       let B = reached _ h 13 (omega arith) (omega arith) in
@@ -488,13 +488,13 @@ module _ (p d : Bytes) (lent : ℕ) where
 
   -- the data set and the lent words
   frame-clear : Clear 12 0 → WellFramed (planOf p) d
-  unfolding refusalReport turn turns pick _==_ outcomeAt numberAt stages
+  unfolding turn turns pick _==_ outcomeAt numberAt stages
   frame-clear h = frame-fits (planOf p) d .0 (clear-test _ _ (reached _ h 14 (omega arith) (omega arith) .here) not-itself)
 
   entry-clear :
       (m k : ℕ) → m < mapCount (planOf p) → k < size (dataOf d) (source (planOf p) m) → Clear 13 (m * 512 + k) →
       EntryFits (planOf p) (dataOf d) m k
-  unfolding entriesCheck refusalReport turn turns pick _==_ outcomeAt numberAt stages
+  unfolding entriesCheck turn turns pick _==_ outcomeAt numberAt stages
   entry-clear m k lm lk h =
       let B = reached _ h 15 (omega arith) (omega arith) in
       let frame = frame-fits (planOf p) d .0 (require-pass _ _ (B .before 14 (omega arith))) in
@@ -510,14 +510,14 @@ module _ (p d : Bytes) (lent : ℕ) where
       entry-fits (planOf p) (dataOf d) m k .0 (clear-test _ _ (K .here) (check-passed refl (omega arith) (omega arith)))
 
   declarations-clear : (k : ℕ) → k < suppliedCount (planOf p) → Clear 14 k → DeclarationsHold (planOf p) (dataOf d) k
-  unfolding refusalReport turn turns pick _==_ outcomeAt numberAt stages
+  unfolding turn turns pick _==_ outcomeAt numberAt stages
   declarations-clear k l h =
       let R = clear-items _ _ _ (turn 14 k .stage) k (λ i. i) (reached _ h 16 (omega arith) (omega arith) .here) l refl
       (λ i li. placed-require _ _ (refl, refl)) (λ i s li e. li) in
       supplied-right (planOf p) (dataOf d) k .0 (clear-test _ _ (R .here) not-itself)
 
   output-clear : (n : ℕ) → n ≡ wordsNeeded (planOf p) (dataOf d) → Clear 15 n → n ≤ lent
-  unfolding refusalReport turn turns pick _==_ outcomeAt numberAt stages
+  unfolding turn turns pick _==_ outcomeAt numberAt stages
   output-clear n e h =
       let B = reached _ h 17 (omega arith) (omega arith) in
       let l = most (clear-test _ _ (B .here) (check-passed refl refl (omega arith))) in

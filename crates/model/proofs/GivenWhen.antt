@@ -39,7 +39,7 @@ module _ (p : Bytes) (r : Refusal) where
   pub evaluation-refuses :
       (d : Bytes) (lent : ℕ) → evaluationCheck p d lent ≡ Refuse r →
       EvaluationGivenWhen p d lent (refusalReport r .number) (refusalReport r .place)
-  unfolding evaluationCheck refusalReport
+  unfolding evaluationCheck
   evaluation-refuses d lent h =
       then-cases _ _ r h (λ e. of-plan (plan-refuses e)) λ plan h.
       then-cases _ _ r h (λ e. of-data (data-refuses (planOf p) d r e)) λ fits h.

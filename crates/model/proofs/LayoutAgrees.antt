@@ -133,7 +133,7 @@ PlanGiven p r = PlanGivenWhen p (refusalReport r .number) (refusalReport r .plac
 -- where the layout's checks refuse
 module _ (p : Bytes) (r : Refusal) where
   section-refuses : (n : ℕ) → n < 7 → boundary p n ≤ length p → sectionCheck p n ≡ Refuse r → PlanGiven p r
-  unfolding sectionCheck measured refusalReport
+  unfolding sectionCheck measured
   section-refuses n lt start h =
       then-cases _ _ r h
       (λ e. let f = require-refuse _ _ r e in rw (← f .1) (truncated {n = n} refl (omega arith) lt start (ended (λ ends. lacks (f .0) (within ends)))))
@@ -155,7 +155,7 @@ module _ (p : Bytes) (r : Refusal) where
   starts s (suc n) b lt = section-pass p n (b n (omega arith) (omega arith)) .ends-inside
 
   pub layout-refuses : layoutCheck p ≡ Refuse r → PlanGiven p r
-  unfolding layoutCheck refusalReport
+  unfolding layoutCheck
   layout-refuses h =
       then-cases _ _ r h
       (λ e.

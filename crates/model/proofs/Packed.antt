@@ -4,11 +4,10 @@
 use Prim.Native.Nat.{ℕ, zero, suc, _+_, _*_, _/_, _%_, _^_, _≤_, _<_}
 use mathlib.Core.Path.{_≡_, refl, sym, ap, _∙_}
 use mathlib.Core.Logic.{inl, inr}
-use mathlib.Core.Bool.{Bool, false}
+use mathlib.Core.Bool.{Bool}
 use native.Mathlib.Nat.{mul-le-mul, mul-le-mul-right}
 use native.Mathlib.Omega.{arith}
-use Rattle.model.specs.Tests.{_==_}
-use Rattle.model.specs.Answers.{Report, refusal, refusalReport, report}
+use Rattle.model.specs.Answers.{refusalReport, report}
 use Rattle.model.specs.Bytes.{Bytes, u16, boundary}
 use Rattle.model.specs.Outcomes.{require, _then_, scan, conclude}
 use Rattle.model.specs.Layout.{Plan, planOf, shapes, shapeOf, sectionCheck, layoutCheck, statementCount, source}
@@ -22,16 +21,15 @@ use Rattle.model.specs.Declarations.{regionCheck, mapCheck, suppliedChec
 use Rattle.model.specs.Verdict.{recordsCheck, planCheck, accepted, verdict}
 use Rattle.model.specs.DataSets.{entriesCheck, dataCheck}
 use Rattle.model.specs.Evaluation.{evaluationCheck, evaluation}
-use Rattle.model.specs.Packed.{packedReport, packed, unpacked}
+use Rattle.model.specs.Packed.{TaggedValue, pack, unpack, Packing, packedBy, unpackedBy, refusalTag, answerTag, answerRead, answerPacking, packed, unpacked}
 use Rattle.model.specs.declared.Refusal.{Refusal}
-use Rattle.model.specs.declared.Refusal.the-variants.{Truncated, UnknownEdition, TrailingBytes, InvalidLength, InvalidRecord, RegionMismatch, DuplicateNode, NotParallelizable, AssignmentCount, UnlicensedStep, UnmetNeed, InvalidData, InvalidEntry, InvalidPartition, OutputTooSmall}
 use Rattle.model.specs.declared.Outcome.{Outcome}
 use Rattle.model.specs.declared.Outcome.the-variants.{Pass, Refuse}
 use Rattle.model.specs.declared.Answer.{Answer}
 use Rattle.model.specs.declared.Answer.the-variants.{Accepted, Refused}
 use Rattle.model.proofs.Tests.{split, fails, refuted, same, same!, pick-true, pick-false, _also_, at-each}
 use Rattle.model.proofs.Outcomes.{then-cases, then-pass, require-pass, require-refuse, scan-pass, scan-refuse}
-use Rattle.model.proofs.Answers.{report-injective}
+use Rattle.model.proofs.Answers.{no-counts, number-in-table, report-injective}
 use Rattle.model.proofs.Accepted.{Section, section-pass, laid-out, limits, plan-accepted}
 use Rattle.model.proofs.DataAgrees.{frame-fits}
 use Rattle.model.proofs.Fitting.{fit}
@@ -43,76 +41,57 @@ pub record Packable (r : Answer) : Type 0 where
   pub few-nodes : report r .nodes ≤ 48
   pub few-steps : report r .steps ≤ 128
 
--- what a refusal tells: one of the numbers 1 to 15, a place, and no counts
-record RefusalReported (t : Report) : Type 0 where
-  some-number : 1 ≤ t .number
-  small-number : t .number ≤ 15
-  no-counts : t ≡ refusal (t .number) (t .place)
+-- 64 bits are enough for any number and value
+pub pack-below : (t : TaggedValue) → pack t < 2 ^ 64
+unfolding pack
+pack-below t = omega arith
 
-row : (n p : ℕ) → 1 ≤ n → n ≤ 15 → RefusalReported (refusal n p)
-row n p low high = record { some-number = low; small-number = high; no-counts = refl }
+-- what is packed is read back
+pub unpack-pack : (t : TaggedValue) → t .number < 2 ^ 8 → t .value < 2 ^ 56 → unpack (pack t) ≡ t
+unfolding pack unpack
+unpack-pack t small-number small-value =
+    let bits : (pack t % 2 ^ 8 ≡ t .number) × (pack t / 2 ^ 8 ≡ t .value) = (omega arith, omega arith) in rw (bits .0, bits .1)
 
-refusal-reported : (r : Refusal) → RefusalReported (refusalReport r)
-unfolding refusalReport
-refusal-reported (Truncated p) = row 1 p (omega arith) (omega arith)
-refusal-reported UnknownEdition = row 2 0 (omega arith) (omega arith)
-refusal-reported (TrailingBytes p) = row 3 p (omega arith) (omega arith)
-refusal-reported (InvalidLength p) = row 4 p (omega arith) (omega arith)
-refusal-reported (InvalidRecord p) = row 5 p (omega arith) (omega arith)
-refusal-reported (RegionMismatch p) = row 6 p (omega arith) (omega arith)
-refusal-reported (DuplicateNode p) = row 7 p (omega arith) (omega arith)
-refusal-reported (NotParallelizable p) = row 8 p (omega arith) (omega arith)
-refusal-reported (AssignmentCount p) = row 9 p (omega arith) (omega arith)
-refusal-reported (UnlicensedStep p) = row 10 p (omega arith) (omega arith)
-refusal-reported (UnmetNeed p) = row 11 p (omega arith) (omega arith)
-refusal-reported InvalidData = row 12 0 (omega arith) (omega arith)
-refusal-reported (InvalidEntry p) = row 13 p (omega arith) (omega arith)
-refusal-reported (InvalidPartition p) = row 14 p (omega arith) (omega arith)
-refusal-reported (OutputTooSmall p) = row 15 p (omega arith) (omega arith)
+-- an answer that loses nothing in its number: number and value fit their bits, and are read as what the answer reports
+pub record Lossless {A R : Type 0} (packing : Packing A R) (r : A) : Type 0 where
+  pub small-number : packing .tag r .number < 2 ^ 8
+  pub small-value : packing .tag r .value < 2 ^ 56
+  pub same-report : packing .read (packing .tag r) ≡ packing .report r
 
-nonzero : (n : ℕ) → 1 ≤ n → (n == 0) ≡ false
-nonzero n some = fails (refuted (λ h. let z = same h in omega arith))
+-- the caller reads what such an answer reports
+pub read-back : {A R : Type 0} (packing : Packing A R) (r : A) → Lossless packing r → unpackedBy packing (packedBy packing r) ≡ packing .report r
+read-back packing r k = ap (packing .read) (unpack-pack _ (k .small-number) (k .small-value)) ∙ k .same-report
 
--- 64 bits are enough for any answer
-pub packed-below : (r : Answer) → packed r < 2 ^ 64
-unfolding packedReport
-packed-below r =
-    elim (split (report r .number == 0)) [
-      | inl y ↦ rw (pick-true _ _ _ y) (omega arith)
-      | inr n ↦ rw (pick-false _ _ _ (fails n)) (omega arith)
-    ]
+-- an acceptance with counts that fit 8 bits
+counts-read : (s n t : ℕ) → s < 2 ^ 8 → n < 2 ^ 8 → t < 2 ^ 8 → answerRead (answerTag (Accepted s n t)) ≡ report (Accepted s n t)
+unfolding answerRead answerTag
+counts-read s n t ls ln lt =
+    let value : ℕ = answerTag (Accepted s n t) .value in
+    let bits : (value % 2 ^ 8 ≡ s) × (value / 2 ^ 8 % 2 ^ 8 ≡ n) × (value / 2 ^ 16 % 2 ^ 8 ≡ t) = (omega arith, omega arith, omega arith) in
+    pick-true _ _ _ (same! refl) ∙ rw (bits .0, bits .1, bits .2)
 
--- what is read from a number, by its bits
-reads-acceptance :
-    (x s n t : ℕ) → x % 2 ^ 8 ≡ 0 → x / 2 ^ 8 % 2 ^ 8 ≡ s → x / 2 ^ 16 % 2 ^ 8 ≡ n → x / 2 ^ 24 % 2 ^ 8 ≡ t →
-    unpacked x ≡ report (Accepted s n t)
-unfolding unpacked report
-reads-acceptance x s n t z a b c = pick-true _ _ _ (same! z) ∙ rw (a, b, c)
+-- a refusal
+place-read : (r : Refusal) → answerRead (refusalTag r) ≡ refusalReport r
+unfolding answerRead
+place-read r =
+    let some = number-in-table r .0 in
+    pick-false _ _ _ (fails (refuted (λ h. let z = same h in omega arith))) ∙ sym (no-counts r)
 
-reads-refusal : (x n p : ℕ) → 1 ≤ n → x % 2 ^ 8 ≡ n → x / 2 ^ 8 ≡ p → unpacked x ≡ refusal n p
-unfolding unpacked
-reads-refusal x n p some a b = pick-false _ _ _ (nonzero _ (omega arith)) ∙ rw (a, b)
+-- answers that fit their bits
+lossless : (r : Answer) → Packable r → Lossless answerPacking r
+unfolding report answerTag
+lossless (Accepted s n t) f =
+    record {
+      small-number = omega arith;
+      small-value = omega arith;
+      same-report = counts-read s n t (omega (arith, f .few-symbols)) (omega (arith, f .few-nodes)) (omega (arith, f .few-steps));
+    }
+lossless (Refused r) f =
+    record { small-number = omega (arith, number-in-table r .1); small-value = omega (arith, f .small-place); same-report = place-read r }
 
-unpacked-acceptance : (s n t : ℕ) → s < 2 ^ 8 → n < 2 ^ 8 → t < 2 ^ 8 → unpacked (packed (Accepted s n t)) ≡ report (Accepted s n t)
-unfolding packedReport report
-unpacked-acceptance s n t ls ln lt =
-    rw (pick-true _ _ _ (same! refl)) (reads-acceptance _ s n t (omega arith) (omega arith) (omega arith) (omega arith))
-
-unpacked-refusal : (n p : ℕ) → 1 ≤ n → n < 2 ^ 8 → p < 2 ^ 56 → unpacked (packedReport (refusal n p)) ≡ refusal n p
-unfolding packedReport
-unpacked-refusal n p some ln lp =
-    rw (pick-false _ _ _ (nonzero n some)) (reads-refusal _ n p some (omega arith) (omega arith))
-
--- the caller reads what the answer tells
+-- the caller reads what the answer reports
 pub unpacked-packed : (r : Answer) → Packable r → unpacked (packed r) ≡ report r
-unfolding report
-unpacked-packed (Accepted s n t) f =
-    unpacked-acceptance s n t (omega (arith, f .few-symbols)) (omega (arith, f .few-nodes)) (omega (arith, f .few-steps))
-unpacked-packed (Refused r) f =
-    let t = refusal-reported r in
-    rw (t .no-counts)
-    (unpacked-refusal (refusalReport r .number) (refusalReport r .place) (t .some-number) (omega (arith, t .small-number))
-    (omega (arith, f .small-place)))
+unpacked-packed r f = read-back answerPacking r (lossless r f)
 
 -- two answers with one number are the same
 pub packed-injective : (a b : Answer) → Packable a → Packable b → packed a ≡ packed b → a ≡ b
@@ -149,7 +128,7 @@ module _ (p : Bytes) (section : (n : ℕ) → n < 7 → Section p n) where
   boundary-near (suc n) le = omega (arith, boundary-near n (omega arith), body-small n (omega arith))
 
 layout-near : (p : Bytes) → Near (layoutCheck p)
-unfolding layoutCheck sectionCheck refusalReport
+unfolding layoutCheck sectionCheck
 layout-near p =
     near-then _ _ (near-require _ _ (omega arith)) λ some.
     near-then _ _ (near-require _ _ (omega arith)) λ edition.
@@ -170,7 +149,6 @@ symbol-most P (suc s) =
 records-near : (P : Plan) → Limits P → Near (recordsCheck P)
 unfolding
     recordsCheck regionCheck mapCheck suppliedCheck statementCheck loopCheck nodeCheck assignmentCountCheck assignmentCheck stepCheck needCheck
-    refusalReport
 records-near P L =
     near-then _ _ (near-scan _ _ (λ r lt. near-require _ _ (omega arith))) λ regions.
     near-then _ _ (near-scan _ _ (λ m lt. near-require _ _ (omega arith))) λ maps.
@@ -196,7 +174,7 @@ unfolding planCheck
 plan-near p = near-then _ _ (layout-near p) λ layout. records-near (planOf p) (limits p (laid-out p layout))
 
 data-near : (P : Plan) (d : Bytes) → Limits P → Facts P → Near (dataCheck P d)
-unfolding dataCheck entriesCheck refusalReport
+unfolding dataCheck entriesCheck
 data-near P d L F =
     near-then _ _ (near-require _ _ (omega arith)) λ frame.
     let few = frame-fits P d .0 (require-pass _ _ frame) .sizes in
@@ -206,7 +184,7 @@ data-near P d L F =
     near-scan _ _ (λ k lt. near-require _ _ (omega arith))
 
 evaluation-near : (p d : Bytes) (lent : ℕ) → Near (evaluationCheck p d lent)
-unfolding evaluationCheck refusalReport
+unfolding evaluationCheck
 evaluation-near p d lent =
     near-then _ _ (plan-near p) λ plan.
     let A = plan-accepted p plan in
@@ -226,7 +204,7 @@ concluded P Pass near known =
       few-steps = L .few-steps;
     }
 concluded P (Refuse r) near known =
-    let t = refusal-reported r .no-counts in
+    let t = no-counts r in
     record {
       small-place = near r refl;
       few-symbols = rw t (omega arith);

@@ -12,7 +12,6 @@ use Rattle.model.specs.Nodes.{nodeFormed, nodeAgrees, duplicateNode, nod
 use Rattle.model.specs.Lemmas.{stepFormed, stepLicensed, stepCheck}
 use Rattle.model.specs.Declarations.{regionCheck, mapCheck, suppliedCheck}
 use Rattle.model.specs.PlainPlan.{NodeFormed, NodeAgrees, SameNode, StepFormed, Licence}
-use Rattle.model.specs.Answers.{refusalReport}
 use Rattle.model.specs.GivenWhen.{RecordInvalid, RegionsDisagree, invalid-record, region-mismatch, duplicate-node, unlicensed-step}
 use Rattle.model.specs.declared.Refusal.{Refusal}
 use Rattle.model.specs.declared.Outcome.the-variants.{Pass, Refuse}
@@ -82,7 +81,7 @@ module _ (P : Plan) where
 -- where a check of these sections refuses
 module _ (p : Bytes) (r : Refusal) where
   pub regions-refuse : scan (regionCheck (planOf p)) 0 (regionCount (planOf p)) ≡ Refuse r → PlanGiven p r
-  unfolding regionCheck refusalReport
+  unfolding regionCheck
   regions-refuse h =
       let w = scan-refuse _ _ r h in
       rw (← require-refuse _ _ r (w .refuses) .1)
@@ -90,7 +89,7 @@ module _ (p : Bytes) (r : Refusal) where
       (RecordInvalid.in-regions refl (omega (arith, w .inside)) (λ s. never (sym (w .refuses) ∙ region-formed (planOf p) (w .at) .1 s))))
 
   pub maps-refuse : scan (mapCheck (planOf p)) 0 (mapCount (planOf p)) ≡ Refuse r → PlanGiven p r
-  unfolding mapCheck refusalReport
+  unfolding mapCheck
   maps-refuse h =
       let w = scan-refuse _ _ r h in
       rw (← require-refuse _ _ r (w .refuses) .1)
@@ -98,7 +97,7 @@ module _ (p : Bytes) (r : Refusal) where
       (RecordInvalid.in-maps refl (omega (arith, w .inside)) (λ s. never (sym (w .refuses) ∙ map-formed (planOf p) (w .at) .1 s))))
 
   pub supplied-refuse : scan (suppliedCheck (planOf p)) 0 (suppliedCount (planOf p)) ≡ Refuse r → PlanGiven p r
-  unfolding suppliedCheck refusalReport
+  unfolding suppliedCheck
   supplied-refuse h =
       let w = scan-refuse _ _ r h in
       rw (← require-refuse _ _ r (w .refuses) .1)
@@ -106,7 +105,7 @@ module _ (p : Bytes) (r : Refusal) where
       (RecordInvalid.in-supplied refl (omega (arith, w .inside)) (λ s. never (sym (w .refuses) ∙ supplied-formed (planOf p) (w .at) .1 s))))
 
   pub nodes-refuse : scan (nodeCheck (planOf p)) 0 (nodeCount (planOf p)) ≡ Refuse r → PlanGiven p r
-  unfolding nodeCheck refusalReport
+  unfolding nodeCheck
   nodes-refuse h =
       let w = scan-refuse _ _ r h in
       let lt : w .at < nodeCount (planOf p) = omega (arith, w .inside) in
@@ -126,7 +125,7 @@ module _ (p : Bytes) (r : Refusal) where
       ])))
 
   pub steps-refuse : scan (stepCheck (planOf p)) 0 (stepCount (planOf p)) ≡ Refuse r → PlanGiven p r
-  unfolding stepCheck refusalReport
+  unfolding stepCheck
   steps-refuse h =
       let w = scan-refuse _ _ r h in
       let lt : w .at < stepCount (planOf p) = omega (arith, w .inside) in

@@ -4,21 +4,14 @@ use Rattle.model.specs.declared.Refusal.{Refusal}
 use Rattle.model.specs.declared.Refusal.the-variants.{Truncated, UnknownEdition, TrailingBytes, InvalidLength, InvalidRecord, RegionMismatch, DuplicateNode, NotParallelizable, AssignmentCount, UnlicensedStep, UnmetNeed, InvalidData, InvalidEntry, InvalidPartition, OutputTooSmall}
 use Rattle.model.specs.declared.Answer.{Answer}
 use Rattle.model.specs.declared.Answer.the-variants.{Accepted, Refused}
+use Rattle.model.specs.declared.Report.{Report}
 
--- what an answer tells: "Acceptance carries the numbers of symbols, nodes and steps. Refusal carries number and place, counts 0"
-pub record Report : Type 0 where
-  pub number : ℕ
-  pub place : ℕ
-  pub symbols : ℕ
-  pub nodes : ℕ
-  pub steps : ℕ
-
--- number and place of a refusal: "counts 0"
+-- "Refusal carries number and place, counts 0"
 abbrev pub refusal : ℕ → ℕ → Report
 refusal n p = record { number = n; place = p; symbols = 0; nodes = 0; steps = 0 }
 
 -- the table of refusals: column "no." and the place
-unfoldable pub refusalReport : Refusal → Report
+abbrev pub refusalReport : Refusal → Report
 refusalReport (Truncated p) = refusal 1 p
 refusalReport UnknownEdition = refusal 2 0
 refusalReport (TrailingBytes p) = refusal 3 p
@@ -35,7 +28,7 @@ refusalReport (InvalidEntry p) = refusal 13 p
 refusalReport (InvalidPartition p) = refusal 14 p
 refusalReport (OutputTooSmall p) = refusal 15 p
 
--- number 0 is acceptance
+-- what an answer tells: "Acceptance carries the numbers of symbols, nodes and steps", under number 0
 unfoldable pub report : Answer → Report
 report (Accepted symbols nodes steps) = record { number = 0; place = 0; symbols = symbols; nodes = nodes; steps = steps }
 report (Refused r) = refusalReport r

@@ -1,29 +1,66 @@
 -- An answer as one number of 64 bits, for callers in C and Rust, and the way they read it.
 use Prim.Native.Nat.{ℕ, _+_, _*_, _/_, _%_, _^_}
 use Rattle.model.specs.Tests.{pick, _==_}
-use Rattle.model.specs.Answers.{Report, refusal, report}
+use Rattle.model.specs.Answers.{refusal, refusalReport, report}
+use Rattle.model.specs.declared.Refusal.{Refusal}
 use Rattle.model.specs.declared.Answer.{Answer}
+use Rattle.model.specs.declared.Answer.the-variants.{Accepted, Refused}
+use Rattle.model.specs.declared.Report.{Report}
 
--- the low 8 bits are the refusal's number, 0 for acceptance; above them the place, or on acceptance symbols in bits 8 to 15, nodes in 16 to
--- 23, steps in 24 to 31. What would not fit its bits is cut to them
-unfoldable pub packedReport : Report → ℕ
-packedReport t =
-    t .number % 2 ^ 8
-    + pick (t .number == 0) (t .symbols % 2 ^ 8 * 2 ^ 8 + t .nodes % 2 ^ 8 * 2 ^ 16 + t .steps % 2 ^ 8 * 2 ^ 24) (t .place % 2 ^ 56 * 2 ^ 8)
+-- what stands in the bits: a number in the low 8, and the value that goes with it in the 56 above them
+pub record TaggedValue : Type 0 where
+  pub number : ℕ
+  pub value : ℕ
+
+-- this value under this number
+abbrev pub tagged : ℕ → ℕ → TaggedValue
+tagged n v = record { number = n; value = v }
+
+-- number and value as one number. What would not fit its bits is cut to them
+unfoldable pub pack : TaggedValue → ℕ
+pack t = t .number % 2 ^ 8 + t .value % 2 ^ 56 * 2 ^ 8
+
+-- number and value from the bits
+unfoldable pub unpack : ℕ → TaggedValue
+unpack n = tagged (n % 2 ^ 8) (n / 2 ^ 8)
+
+-- how answers of one type are packed: what an answer tells, its number and value, and what a caller makes of number and value
+pub record Packing (A R : Type 0) : Type 0 where
+  pub report : A → R
+  pub tag : A → TaggedValue
+  pub read : TaggedValue → R
 
 -- an answer as one number
-abbrev pub packed : Answer → ℕ
-packed r = packedReport (report r)
+abbrev pub packedBy : {A R : Type 0} → Packing A R → A → ℕ
+packedBy packing r = pack (packing .tag r)
 
 -- what the caller reads from the number
-unfoldable pub unpacked : ℕ → Report
-unpacked n =
-    pick (n % 2 ^ 8 == 0)
-    (record {
-      number = 0;
-      place = 0;
-      symbols = n / 2 ^ 8 % 2 ^ 8;
-      nodes = n / 2 ^ 16 % 2 ^ 8;
-      steps = n / 2 ^ 24 % 2 ^ 8;
-    })
-    (refusal (n % 2 ^ 8) (n / 2 ^ 8))
+abbrev pub unpackedBy : {A R : Type 0} → Packing A R → ℕ → R
+unpackedBy packing n = packing .read (unpack n)
+
+-- a refusal: its number, and the place above it
+abbrev pub refusalTag : Refusal → TaggedValue
+refusalTag r = tagged (refusalReport r .number) (refusalReport r .place)
+
+-- an acceptance: number 0, and the counts above it in 8 bits each
+unfoldable pub answerTag : Answer → TaggedValue
+answerTag (Accepted symbols nodes steps) = tagged 0 (symbols % 2 ^ 8 + nodes % 2 ^ 8 * 2 ^ 8 + steps % 2 ^ 8 * 2 ^ 16)
+answerTag (Refused r) = refusalTag r
+
+-- what a caller makes of them: under number 0 the counts, under any other a refusal at the place
+unfoldable pub answerRead : TaggedValue → Report
+answerRead t =
+    pick (t .number == 0)
+    (report (Accepted (t .value % 2 ^ 8) (t .value / 2 ^ 8 % 2 ^ 8) (t .value / 2 ^ 16 % 2 ^ 8)))
+    (refusal (t .number) (t .value))
+
+-- how answers of checking and evaluating are packed
+abbrev pub answerPacking : Packing Answer Report
+answerPacking = record { report = report; tag = answerTag; read = answerRead }
+
+-- such an answer as one number, and what the caller reads from it
+abbrev pub packed : Answer → ℕ
+packed = packedBy answerPacking
+
+abbrev pub unpacked : ℕ → Report
+unpacked = unpackedBy answerPacking

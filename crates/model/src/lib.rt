@@ -28,6 +28,15 @@ pub enum Answer {
     Refused(Refusal),
 }
 
+// What an answer tells: number and place of a refusal, 0 and 0 on acceptance; the counts of an acceptance, 0 on refusal.
+pub struct Report {
+    pub number: usize,
+    pub place: usize,
+    pub symbols: usize,
+    pub nodes: usize,
+    pub steps: usize,
+}
+
 // What one check of several says.
 pub enum Outcome {
     Pass,

@@ -11,45 +11,44 @@ use Rattle.model.specs.Parallel.{reads, writes, reduces, uncentered, accessOfLo
 use Rattle.model.specs.Nodes.{nodeFormedRows, nodeFormed, nodeRegionRows, nodeRegionStep, nodeRegion, nodeAgreesRows, nodeAgrees, sameNode, duplicateNode, nodeCheck}
 use Rattle.model.specs.Lemmas.{concludesSubset, concludesDisjoint, concludesComplete, operandOf, licences, licence, stepFormed, stepLicensed, stepCheck}
 use Rattle.model.specs.Needs.{hasSymbol, symbol, symbolRegion, assignmentCountCheck, assignmentCheck, imageNode, boundBy, bound, loopNeedsMet, accessNeedMet, needCheck}
-use Rattle.model.specs.Declarations.{regionCheck, mapCheck, suppliedCheck}
-use Rattle.layout.specs.Parts.{parts}
+use Rattle.primitives.specs.Parts.{parts}
+use Rattle.expressions.specs.Parts.{nodeParts, stepParts}
 use Rattle.model.specs.Outcomes.{_then_}
 use Rattle.plan.specs.Needs.{NeedsKnown}
-use Rattle.loops.specs.Tables.{StatementTables}
+use Rattle.loops.specs.Tables.{loopParts, StatementTables}
 use Rattle.expressions.specs.declared.nodes.CheckedNodes.{CheckedNodes}
 use Rattle.expressions.specs.Nodes.{NodesChecked}
+use Rattle.model.specs.declared.Outcome.{Outcome}
 use Rattle.model.specs.declared.Outcome.the-variants.{Pass}
 use Rattle.expressions.specs.Steps.{stepsCheck, Concluded}
-use Rattle.layout.specs.Declarations.{regionsCheck, mapsCheck, partitionsCheck}
+use Rattle.layout.specs.Declarations.{MapDeclarations, SuppliedDeclarations, regionsCheck, mapsCheck, partitionsCheck}
 use Rattle.plan.specs.Sections.{StatementsKnown, NodesKnown, StepsReady, statementsCheck, loopsCheck, nodesCheck, fromAssignments}
 
 module _ (regions maps supplied statements nodes assignments steps : Bytes) where
   abbrev whole : Plan
   whole = parts regions maps supplied statements nodes assignments steps
 
-  pub regions-handed : regionsCheck (parts regions [] [] [] [] [] []) ≡ regionsCheck whole
-  unfolding regionCheck
-  regions-handed = refl
+  -- the readers of regions, maps and supplied partitions speak of every plan of theirs
+  pub regions-handed : {o : Outcome} → ((P : Plan) → P .regions ≡ regions → o ≡ regionsCheck P) → o ≡ regionsCheck whole
+  regions-handed read = read whole refl
 
-  pub maps-handed : mapsCheck (parts regions maps [] [] [] [] []) ≡ mapsCheck whole
-  unfolding mapCheck
-  maps-handed = refl
+  pub maps-handed : {o : Outcome} → ((P : Plan) → MapDeclarations P regions maps → o ≡ mapsCheck P) → o ≡ mapsCheck whole
+  maps-handed read = read whole (record { regions-are = refl; maps-are = refl })
 
-  pub supplied-handed : partitionsCheck (parts regions [] supplied [] [] [] []) ≡ partitionsCheck whole
-  unfolding suppliedCheck
-  supplied-handed = refl
+  pub supplied-handed : {o : Outcome} → ((P : Plan) → SuppliedDeclarations P regions supplied → o ≡ partitionsCheck P) → o ≡ partitionsCheck whole
+  supplied-handed read = read whole (record { regions-are = refl; supplied-are = refl })
 
   pub loops-handed :
-      (statementsCheck (parts regions maps [] statements [] [] []) then loopsCheck (parts regions maps [] statements [] [] []))
+      (statementsCheck (loopParts regions maps statements) then loopsCheck (loopParts regions maps statements))
       ≡ (statementsCheck whole then loopsCheck whole)
   unfolding kind opens defines accesses loopBefore variables definition operandBy operand operandDefinition regionBy variableRegion centeredBy centered statementFormedBy statementFormed statementAgreesBy statementAgrees statementCheck reads writes reduces uncentered accessOfLoop sameTarget conflicts parallelizable loopCheck
   loops-handed = refl
 
-  pub nodes-handed : nodesCheck (parts regions maps supplied [] nodes [] []) ≡ nodesCheck whole
+  pub nodes-handed : nodesCheck (nodeParts regions maps supplied nodes) ≡ nodesCheck whole
   unfolding nodeFormedRows nodeFormed nodeRegionRows nodeRegionStep nodeRegion nodeAgreesRows nodeAgrees sameNode duplicateNode nodeCheck
   nodes-handed = refl
 
-  pub steps-handed : stepsCheck (parts [] maps supplied [] nodes [] steps) ≡ stepsCheck whole
+  pub steps-handed : stepsCheck (stepParts maps supplied nodes steps) ≡ stepsCheck whole
   unfolding concludesSubset concludesDisjoint concludesComplete operandOf licences licence stepFormed stepLicensed stepCheck
   steps-handed = refl
 
@@ -60,7 +59,7 @@ module _ (regions maps supplied statements nodes assignments steps : Bytes) wher
   -- what is known of the tables
   module _ {operands variableRegions : List ℕ} {centers : List Bool} where
     pub tables-handed : {n : ℕ} →
-        StatementTables (parts regions maps [] statements [] [] []) n operands variableRegions centers →
+        StatementTables (loopParts regions maps statements) n operands variableRegions centers →
         StatementTables whole n operands variableRegions centers
     unfolding kind opens defines loopBefore variables definition operandBy operand operandDefinition regionBy variableRegion centeredBy centered
     tables-handed known =
@@ -71,7 +70,7 @@ module _ (regions maps supplied statements nodes assignments steps : Bytes) wher
         }
 
     pub nodes-known : {checked : CheckedNodes} → checked .outcome ≡ Pass →
-        NodesChecked (parts regions maps supplied [] nodes [] []) checked →
+        NodesChecked (nodeParts regions maps supplied nodes) checked →
         StatementsKnown whole operands variableRegions centers →
         NodesKnown (parts [] maps supplied statements nodes assignments steps) operands variableRegions centers (checked .regions) (checked .numbers)
     unfolding kind opens defines loopBefore variables definition operandBy operand operandDefinition regionBy variableRegion centeredBy centered nodeRegionRows nodeRegionStep nodeRegion
@@ -87,7 +86,7 @@ module _ (regions maps supplied statements nodes assignments steps : Bytes) wher
 
   -- what the needs are settled with
   pub needs-known : {operands numbers conclusions : List ℕ} {centers : List Bool} → StepsReady whole operands centers numbers →
-      Concluded (parts [] maps supplied [] nodes [] steps) (stepCount whole) conclusions →
+      Concluded (stepParts maps supplied nodes steps) (stepCount whole) conclusions →
       NeedsKnown whole statements assignments operands centers numbers (nodeCount whole) conclusions (stepCount whole)
   unfolding concludesSubset concludesDisjoint concludesComplete
   needs-known ready told =

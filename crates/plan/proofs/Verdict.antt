@@ -1,12 +1,11 @@
 -- The verdict of a plan from its layout and its records. Assumes nothing.
-use Prim.Native.Nat.{ℕ, _+_}
+use Prim.Native.Nat.{ℕ}
 use mathlib.Core.Path.{_≡_, refl, sym, _∙_, ap, subst⁻¹}
-use Rattle.model.specs.Bytes.{Bytes, part, boundary, body}
+use Rattle.model.specs.Bytes.{Bytes, body}
 use Rattle.model.specs.Outcomes.{_then_, conclude}
 use Rattle.model.specs.Layout.{Plan, planOf, layoutCheck, assignmentCount, nodeCount, stepCount}
 use Rattle.model.specs.Needs.{symbolCount, assignmentCountCheck}
 use Rattle.model.specs.Verdict.{recordsCheck, accepted, planCheck, verdict}
-use Rattle.model.specs.AcceptedPlans.{Limits}
 use Rattle.model.specs.declared.Refusal.{Refusal}
 use Rattle.model.specs.declared.Outcome.{Outcome}
 use Rattle.model.specs.declared.Outcome.the-variants.{Pass, Refuse}
@@ -14,35 +13,20 @@ use Rattle.model.specs.declared.Answer.{Answer}
 use Rattle.model.specs.declared.Answer.the-variants.{Accepted, Refused}
 use Rattle.model.proofs.Tests.{same}
 use Rattle.model.proofs.Outcomes.{then-pass, require-pass, conclude-accepted}
-use Rattle.model.proofs.Accepted.{laid-out, limits, verdict-accepted}
-use Rattle.layout.specs.declared.frame.Frame.{Frame}
+use Rattle.model.proofs.Accepted.{limits, verdict-accepted}
 use Rattle.plan.specs.declared.Reading.{Reading}
-use Rattle.layout.specs.Parts.{parts}
+use Rattle.primitives.specs.Parts.{parts}
 use Rattle.layout.specs.declared.frame.Framed.{Framed}
-use Rattle.layout.specs.declared.frame.Framed.the-variants.{Whole, Broken}
-use Rattle.layout.specs.Frames.{frameOf, framedOf, Laid}
-use Rattle.plan.specs.Reading.{noFrame, frameIf, readingOf, AcceptedReading, ReadPromise}
-use Rattle.layout.proofs.Frames.{framing-whole, framing-broken, layout-laid}
+use Rattle.layout.specs.Frames.{frameIf, framedOf, Laid}
+use Rattle.layout.proofs.Frames.{layout-laid}
+use Rattle.primitives.specs.Sections.{frameOf}
+use Rattle.plan.specs.Reading.{readingOf, AcceptedReading, ReadPromise}
 
--- the sections, cut where a frame says
-abbrev pub cut : Bytes → Frame → Plan
-cut p frame =
-    parts
-    (part p 3 (frame .regions))
-    (part p (frame .regions + 2) (frame .maps))
-    (part p (frame .maps + 2) (frame .supplied))
-    (part p (frame .supplied + 2) (frame .statements))
-    (part p (frame .statements + 2) (frame .nodes))
-    (part p (frame .nodes + 2) (frame .assignments))
-    (part p (frame .assignments + 2) (frame .steps))
-
-pub cut-plan : (p : Bytes) (frame : Frame) → frame ≡ frameOf p → cut p frame ≡ planOf p
-unfolding body boundary
-cut-plan p frame e = rw e
-
--- the sections of a layout that passes keep the limits
-pub cut-limits : (p : Bytes) (frame : Frame) → Laid p frame → Limits (cut p frame)
-cut-limits p frame known = subst⁻¹ Limits (cut-plan p frame (known .places)) (limits p (laid-out p (known .passes)))
+-- the sections that a plan's bytes have, handed on one by one
+module _ (p : Bytes) {regions maps supplied statements nodes assignments steps : Bytes} (r : regions ≡ body p 0) (m : maps ≡ body p 1)
+    (s : supplied ≡ body p 2) (t : statements ≡ body p 3) (n : nodes ≡ body p 4) (a : assignments ≡ body p 5) (l : steps ≡ body p 6) where
+  pub handed-plan : parts regions maps supplied statements nodes assignments steps ≡ planOf p
+  handed-plan = rw (r, m, s, t, n, a, l)
 
 -- "assignments not one per symbol" is refused, so a plan that passes has as many symbols as assignments
 symbols-assigned : (P : Plan) → recordsCheck P ≡ Pass → assignmentCount P ≡ symbolCount P
@@ -56,24 +40,23 @@ decided : (p : Bytes) → layoutCheck p ≡ Pass → verdict p ≡ conclude (rec
 unfolding verdict planCheck _then_
 decided p h = rw h
 
--- by the outcome of the records, as their check gave it
-module _ (p : Bytes) (frame : Frame) (known : Laid p frame) {o : Outcome} (checked : o ≡ recordsCheck (cut p frame)) where
+-- by the outcome of the records of the sections, as their check gave it
+module _ (p : Bytes) (passes : layoutCheck p ≡ Pass) {P : Plan} (same-plan : P ≡ planOf p) {o : Outcome} (checked : o ≡ recordsCheck P) where
   records : o ≡ recordsCheck (planOf p)
-  records = checked ∙ ap recordsCheck (cut-plan p frame (known .places))
+  records = checked ∙ ap recordsCheck same-plan
 
   abbrev counted : Plan → Answer
-  counted P = Accepted (assignmentCount P) (nodeCount P) (stepCount P)
+  counted Q = Accepted (assignmentCount Q) (nodeCount Q) (stepCount Q)
 
-  pub plan-concluded : conclude o (counted (cut p frame)) ≡ verdict p
+  pub plan-concluded : conclude o (counted P) ≡ verdict p
   unfolding conclude
   plan-concluded = by o refl
     where
-      by : (x : Outcome) → o ≡ x → conclude x (counted (cut p frame)) ≡ verdict p
+      by : (x : Outcome) → o ≡ x → conclude x (counted P) ≡ verdict p
       by Pass pass =
-          let passes = sym records ∙ pass in
-          subst⁻¹ (λ P. counted P ≡ verdict p) (cut-plan p frame (known .places))
-          (rw (decided p (known .passes), passes, symbols-assigned (planOf p) passes))
-      by (Refuse r) refused = rw (decided p (known .passes), sym records ∙ refused)
+          let accepts = sym records ∙ pass in
+          subst⁻¹ (λ Q. counted Q ≡ verdict p) same-plan (rw (decided p passes, accepts, symbols-assigned (planOf p) accepts))
+      by (Refuse r) refused = rw (decided p passes, sym records ∙ refused)
 
 pub layout-refused : (p : Bytes) {r : Refusal} → layoutCheck p ≡ Refuse r → Refused r ≡ verdict p
 unfolding verdict planCheck _then_ conclude
@@ -81,15 +64,14 @@ layout-refused p h = rw h
 
 -- verdict and frame together, by what reading the frame gave
 module _ (p : Bytes) {framed : Framed} (read : framed ≡ framedOf p) where
-  pub reading-whole : (frame : Frame) → framed ≡ Whole frame → record { answer = verdict p; frame = frame } ≡ readingOf p
-  unfolding frameIf
-  reading-whole frame h = let whole = framing-whole (layoutCheck p) (frameOf p) frame (sym read ∙ h) in rw (whole .0, whole .1)
+  framed-frame : framed .frame ≡ frameIf (layoutCheck p) (frameOf 7 p)
+  framed-frame = ap (λ x. x .frame) read
 
-  pub reading-broken : (r : Refusal) → framed ≡ Broken r → record { answer = Refused r; frame = noFrame } ≡ readingOf p
-  unfolding frameIf
-  reading-broken r h =
-      let broken = framing-broken (layoutCheck p) (frameOf p) r (sym read ∙ h) in
-      rw (layout-refused p broken, broken)
+  pub reading-laid : record { answer = verdict p; frame = framed .frame } ≡ readingOf p
+  reading-laid = rw framed-frame
+
+  pub reading-refused : (r : Refusal) → framed .outcome ≡ Refuse r → record { answer = Refused r; frame = framed .frame } ≡ readingOf p
+  reading-refused r h = rw (framed-frame, layout-refused p (sym (ap (λ x. x .outcome) read) ∙ h))
 
 -- the frame of an accepted plan
 pub accepted-laid : (p : Bytes) (symbols nodes steps : ℕ) → verdict p ≡ Accepted symbols nodes steps → Laid p (readingOf p .frame)
@@ -105,4 +87,4 @@ read-promise p r e = record { reading = e; accepted = λ symbols nodes steps h. 
     known : (symbols nodes steps : ℕ) → verdict p ≡ Accepted symbols nodes steps → AcceptedReading p (readingOf p)
     known symbols nodes steps h =
         let plan = verdict-accepted p symbols nodes steps h .0 in
-        record { laid = accepted-laid p symbols nodes steps h; facts = plan .records; limits = limits p (plan .layout) }
+        record { delimited = accepted-laid p symbols nodes steps h .delimited; facts = plan .records; limits = limits p (plan .layout) }

@@ -6,27 +6,17 @@ use Rattle.model.specs.Layout.{planOf, layoutCheck}
 use Rattle.model.specs.Verdict.{verdict}
 use Rattle.model.specs.AcceptedPlans.{Facts, Limits}
 use Rattle.model.specs.declared.Answer.the-variants.{Accepted}
-use Rattle.model.specs.declared.Outcome.{Outcome}
-use Rattle.model.specs.declared.Outcome.the-variants.{Pass, Refuse}
-use Rattle.layout.specs.declared.frame.Frame.{Frame}
+use Rattle.primitives.specs.Sections.{frameOf, Delimits}
+use Rattle.layout.specs.Frames.{frameIf}
 use Rattle.plan.specs.declared.Reading.{Reading}
-use Rattle.layout.specs.Frames.{frameOf, Laid}
-
-abbrev pub noFrame : Frame
-noFrame = record { regions = 0; maps = 0; supplied = 0; statements = 0; nodes = 0; assignments = 0; steps = 0 }
-
--- the frame where the layout passes, all zero where it does not
-unfoldable pub frameIf : Outcome → Frame → Frame
-frameIf Pass frame = frame
-frameIf (Refuse r) frame = noFrame
 
 -- verdict and frame together
 abbrev pub readingOf : Bytes → Reading
-readingOf p = record { answer = verdict p; frame = frameIf (layoutCheck p) (frameOf p) }
+readingOf p = record { answer = verdict p; frame = frameIf (layoutCheck p) (frameOf 7 p) }
 
 -- what is known of a plan that reading accepted: where its sections are, what each record is, and how many there are
 pub record AcceptedReading (p : Bytes) (r : Reading) : Type 0 where
-  pub laid : Laid p (r .frame)
+  pub delimited : Delimits 7 p (r .frame)
   pub facts : Facts (planOf p)
   pub limits : Limits (planOf p)
 

@@ -1,13 +1,13 @@
 // Symbols, and section 6: a node for each, of its region.
-use layout::bytes::byte_at;
-use layout::outcomes::and_then;
-use layout::outcomes::require;
 use loops::kinds::access_of;
 use loops::kinds::is_access;
 use loops::kinds::opens_loop;
 use loops::statements::kind_at;
 use model::Outcome;
 use model::Refusal;
+use primitives::bytes::byte_at;
+use primitives::outcomes::and_then;
+use primitives::outcomes::require;
 ghost use mathlib.Core.Path.{_≡_};
 ghost use Prim.Native.Nat.{suc, _/_, _<_, _≤_};
 ghost use lib.ListN.{length};

@@ -1,10 +1,11 @@
 // Reads and checks partition plans.
 use crate::records::check_records;
-use layout::frame::Frame;
-use layout::frame::Framed;
 use layout::frame::read_frame;
-use layout::outcomes::conclude;
 use model::Answer;
+use model::Outcome;
+use primitives::outcomes::conclude;
+use primitives::sections::Frame;
+use primitives::sections::section_body;
 ghost use mathlib.Core.Path.{_≡_};
 ghost use Rattle.model.specs.Verdict.{verdict};
 ghost use Rattle.layout.specs.Frames.{Laid};
@@ -26,20 +27,13 @@ fn check_sections(plan: &[u8], frame: Frame) -> Answer
     requires { ⌜ Laid (now plan) frame ⌝ }
     ensures { λ r. ⌜ r ≡ verdict (now (plan .entry)) ⌝ }
 {
-    let regions_end = frame.regions;
-    let maps_end = frame.maps;
-    let supplied_end = frame.supplied;
-    let statements_end = frame.statements;
-    let nodes_end = frame.nodes;
-    let assignments_end = frame.assignments;
-    let steps_end = frame.steps;
-    let regions = &plan[3..regions_end];
-    let maps = &plan[regions_end + 2..maps_end];
-    let supplied = &plan[maps_end + 2..supplied_end];
-    let statements = &plan[supplied_end + 2..statements_end];
-    let nodes = &plan[statements_end + 2..nodes_end];
-    let assignments = &plan[nodes_end + 2..assignments_end];
-    let steps = &plan[assignments_end + 2..steps_end];
+    let regions = section_body(plan, frame, 0);
+    let maps = section_body(plan, frame, 1);
+    let supplied = section_body(plan, frame, 2);
+    let statements = section_body(plan, frame, 3);
+    let nodes = section_body(plan, frame, 4);
+    let assignments = section_body(plan, frame, 5);
+    let steps = section_body(plan, frame, 6);
     let outcome = check_records(
         regions,
         maps,
@@ -63,22 +57,17 @@ fn check_sections(plan: &[u8], frame: Frame) -> Answer
 pub fn read(plan: &[u8]) -> Reading
     ensures { λ r. ⌜ ReadPromise (now (plan .entry)) r ⌝ }
 {
-    match read_frame(plan) {
-        Framed::Whole(frame) => {
+    let framed = read_frame(plan);
+    let frame = framed.frame;
+    let outcome = framed.outcome;
+    match outcome {
+        Outcome::Pass => {
             let answer = check_sections(plan, frame);
             Reading { answer, frame }
         }
-        Framed::Broken(refusal) => Reading {
+        Outcome::Refuse(refusal) => Reading {
             answer: Answer::Refused(refusal),
-            frame: Frame {
-                regions: 0,
-                maps: 0,
-                supplied: 0,
-                statements: 0,
-                nodes: 0,
-                assignments: 0,
-                steps: 0,
-            },
+            frame,
         },
     }
 }

@@ -15,7 +15,7 @@ ghost use Prim.Native.Nat.{_/_, _≤_};
 ghost use lib.ListN.{length};
 ghost use Rattle.model.specs.Verdict.{recordsCheck};
 ghost use Rattle.model.specs.AcceptedPlans.{Limits};
-ghost use Rattle.layout.specs.Parts.{parts};
+ghost use Rattle.primitives.specs.Parts.{parts};
 ghost use Rattle.loops.specs.Tables.{loopParts};
 ghost use Rattle.plan.specs.Sections.{StatementsChecked, StatementsKnown, NodesKnown, StepsReady, fromStatements, fromNodes, fromAssignments, fromSteps};
 

@@ -27,22 +27,17 @@ use Rattle.model.proofs.Tests.{both, pair, refuted, same, fails, most, most! }
 use Rattle.model.proofs.Outcomes.{then-pass, required, conclude-accepted}
 use Rattle.model.proofs.Accepted.{laid-out, plan-accepted, limits}
 use Rattle.model.proofs.Fitting.{data-laid-out, fit}
+use Rattle.primitives.proofs.Bodies.{boundary-most}
 use Rattle.report.specs.Buffers.{planBytes, dataBytes, outputWords}
 
--- sections end no later than so
+-- the sections of a prefix that is long enough end where those of the whole do
 module _ (s : Bytes) (bytes : (i : ℕ) → byte s i < 256) where
-  boundary-most : (n : ℕ) → boundary s n ≤ 1 + n * 65537
-  unfolding boundary
-  boundary-most zero = omega arith
-  boundary-most (suc n) = omega (arith, boundary-most n, bytes (boundary s n), bytes (boundary s n + 1))
-
-  -- and those of a prefix that is long enough are those of the whole
   boundary-prefix : (k many n : ℕ) → 1 + many * 65537 < k → n ≤ many → boundary (take k s) n ≡ boundary s n
   unfolding boundary
   boundary-prefix k many zero long h = refl
   boundary-prefix k many (suc n) long h =
-      let here : boundary s n < k = omega (arith, boundary-most n) in
-      let next : boundary s n + 1 < k = omega (arith, boundary-most n) in
+      let here : boundary s n < k = omega (arith, boundary-most s bytes n) in
+      let next : boundary s n + 1 < k = omega (arith, boundary-most s bytes n) in
       rw (boundary-prefix k many n long (omega arith), getD-take, getD-take)
 
 -- scans whose checks agree

@@ -1,5 +1,6 @@
 // Evaluates the plan of the file plan.bin over the data set of the file data.bin, and prints the answer and, for each symbol
 // and piece, the members.
+use dataset::cells::piece_count;
 use evaluate::evaluate;
 use files::read_file;
 use layout::cells::assigned_node;
@@ -9,9 +10,10 @@ ghost use Rattle.report.specs.Buffers.{planBytes, dataBytes, outputWords
 
 // Prints the members of each symbol's pieces.
 fn print_symbols(plan: &[u8], data: &[u8], words: &[u64], symbols: usize) -> bool {
+    let pieces = piece_count(data);
     let mut symbol = 0;
     while symbol < symbols {
-        if !listing::print_node(symbol, assigned_node(plan, symbol), data, words) {
+        if !listing::print_node(symbol, assigned_node(plan, symbol), pieces, words) {
             return false;
         }
         symbol += 1;

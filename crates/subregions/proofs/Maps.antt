@@ -1,18 +1,19 @@
 -- The laws of image and preimage made a word at a time. Assumes nothing.
-use Prim.Native.Nat.{ℕ, suc, _+_, _-_, _*_, _^_, _≤_, _<_, min}
+use Prim.Native.Nat.{ℕ, suc, _+_, _-_, _*_, _%_, _^_, _≤_, _<_, min}
 use mathlib.Core.Path.{_≡_, refl, sym, ap, ap₂, _∙_}
 use mathlib.Core.Logic.{inl, inr}
 use mathlib.Core.Bool.{Bool, false}
 use native.Mathlib.Decide.{ℕ-discrete, decLt}
 use native.Mathlib.Omega.{arith}
 use lib.Pow.{pow-pos, pow-mono}
+use lib.Bits.{bitOr}
 use Rattle.model.specs.Tests.{Is, _and_, _or_, non, any, _==_, _<?_}
 use Rattle.model.specs.Bytes.{Bytes, u16}
 use Rattle.model.specs.Words.{bit, digit, number, word}
 use Rattle.model.proofs.Tests.{falsum, both, pair, either, one, lacks, refuted, same, same!, less, less!, some-of, among}
-use Rattle.model.proofs.Words.{bit-zero, number-less, number-same, is-number}
+use Rattle.model.proofs.Words.{bit-zero, digit-less, number-less, number-same, is-number}
 use Rattle.bitsets.specs.Elements.{entriesOf, addingEntries, leadingTo}
-use Rattle.bitsets.proofs.Bits.{agree, refute}
+use Rattle.bitsets.proofs.Bits.{agree, refute, shifted-or}
 
 -- a word from its highest element down: the bits of word w from element k on
 unfoldable pub upper : (ℕ → Bool) → ℕ → ℕ → ℕ
@@ -24,38 +25,34 @@ module _ (elements : ℕ → Bool) (w : ℕ) where
   upper-none k h =
       is-number (64 * w + 64 - k) 0 _ (pow-pos (64 * w + 64 - k)) (λ b l. bit-zero b ∙ sym (h (k + b) (omega arith) (omega arith)))
 
-  pub upper-room : (k r : ℕ) → 64 * w < k → r ≡ upper elements w k → r * 2 + 1 < 2 ^ 64
+  upper-room : (k r : ℕ) → 64 * w < k → r ≡ upper elements w k → r * 2 ^ 1 < 2 ^ 64
   unfolding upper
   upper-room k r h q =
       let few : 64 * w + 64 - k ≤ 63 = omega arith in
       omega (arith, q, number-less (64 * w + 64 - k) (λ b. elements (k + b)), pow-mono few)
 
-  pub upper-next : (k r d : ℕ) → 64 * w < k → k ≤ 64 * w + 64 → r ≡ upper elements w k → d ≡ digit (elements (k - 1)) → r * 2 + d ≡ upper elements w (k - 1)
+  upper-next : (k r d : ℕ) → 64 * w < k → k ≤ 64 * w + 64 → r ≡ upper elements w k → d ≡ digit (elements (k - 1))
+      → bitOr ((r * 2 ^ 1) % 2 ^ 64) d ≡ upper elements w (k - 1)
   unfolding upper number
   upper-next k r d low high q h =
       let more : 64 * w + 64 - (k - 1) ≡ suc (64 * w + 64 - k) = omega arith in
       let here : k - 1 ≡ k - 1 + 0 = omega arith in
-      ap₂ (λ (x y : ℕ). x * 2 + y)
+      shifted-or 64 1 r d (upper-room k r low q) (omega (arith, h, digit-less (elements (k - 1))))
+      ∙ ap₂ (λ (x y : ℕ). x * 2 + y)
       (q ∙ number-same (64 * w + 64 - k) _ _ (λ b l. let e : k + b ≡ k - 1 + suc b = omega arith in ap elements e))
       (h ∙ ap (λ (e : ℕ). digit (elements e)) here)
       ∙ ap (λ (n : ℕ). number n (λ b. elements (k - 1 + b))) (sym more)
 
   -- two places at a time: n pairs are left
-  module _ (n r d : ℕ) (q : r ≡ upper elements w (64 * w + 2 * n)) (some : 0 < n) (few : n ≤ 32)
-      (h : d ≡ digit (elements (64 * w + 2 * (n - 1) + 1))) where
-    upper-first : r * 2 + d ≡ upper elements w (64 * w + 2 * n - 1)
-    upper-first =
-        let next : 64 * w + 2 * (n - 1) + 1 ≡ 64 * w + 2 * n - 1 = omega arith in
-        upper-next (64 * w + 2 * n) r d (omega arith) (omega arith) q (h ∙ ap (λ (e : ℕ). digit (elements e)) next)
-
-    pub upper-room-two : (r * 2 + d) * 2 + 1 < 2 ^ 64
-    upper-room-two = upper-room (64 * w + 2 * n - 1) (r * 2 + d) (omega arith) upper-first
-
-    pub upper-two : (e : ℕ) → e ≡ digit (elements (64 * w + 2 * (n - 1))) → (r * 2 + d) * 2 + e ≡ upper elements w (64 * w + 2 * (n - 1))
-    upper-two e g =
-        let next : 64 * w + 2 * n - 1 - 1 ≡ 64 * w + 2 * (n - 1) = omega arith in
-        upper-next (64 * w + 2 * n - 1) (r * 2 + d) e (omega arith) (omega arith) upper-first (g ∙ ap (λ (k : ℕ). digit (elements k)) (sym next))
-        ∙ ap (upper elements w) next
+  pub upper-two : (n r d e : ℕ) → 0 < n → n ≤ 32 → r ≡ upper elements w (64 * w + 2 * n)
+      → d ≡ digit (elements (64 * w + 2 * (n - 1) + 1)) → e ≡ digit (elements (64 * w + 2 * (n - 1)))
+      → bitOr ((bitOr ((r * 2 ^ 1) % 2 ^ 64) d * 2 ^ 1) % 2 ^ 64) e ≡ upper elements w (64 * w + 2 * (n - 1))
+  upper-two n r d e some few q h g =
+      let higher : 64 * w + 2 * (n - 1) + 1 ≡ 64 * w + 2 * n - 1 = omega arith in
+      let lower : 64 * w + 2 * n - 1 - 1 ≡ 64 * w + 2 * (n - 1) = omega arith in
+      let first = upper-next (64 * w + 2 * n) r d (omega arith) (omega arith) q (h ∙ ap (λ (k : ℕ). digit (elements k)) higher) in
+      upper-next (64 * w + 2 * n - 1) _ e (omega arith) (omega arith) first (g ∙ ap (λ (k : ℕ). digit (elements k)) (sym lower))
+      ∙ ap (upper elements w) lower
 
   pub upper-all : (k : ℕ) → k ≡ 64 * w → upper elements w k ≡ word elements w
   unfolding upper word

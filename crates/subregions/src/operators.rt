@@ -155,8 +155,8 @@ fn preimage_word(table: &[u16], set: &[u64], w: usize) -> u64
     while pairs > 0 {
         pairs -= 1;
         let place = 64 * w + 2 * pairs;
-        let upper = result * 2 + member_at(table, set, place + 1);
-        result = upper * 2 + member_at(table, set, place);
+        let upper = (result << 1) | member_at(table, set, place + 1);
+        result = (upper << 1) | member_at(table, set, place);
     }
     result
 }

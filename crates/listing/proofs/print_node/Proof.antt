@@ -7,18 +7,15 @@ use Rattle.listing.proofs.print_node.Statement.{statement}
 use Rattle.listing.proofs.print_node.Tie as tie
 
 abbrev Inv-loop : tie.InvT-loop
-Inv-loop number node «data» words pieces piece₀ piece = piece ≤ pieces
+Inv-loop number node pieces words piece₀ piece = piece ≤ pieces
 
 abbrev μ-loop : tie.MeasureT-loop
-μ-loop number node «data» words pieces piece₀ piece = pieces - piece
-
-piece-count-requires : tie.Need-piece-count-requires Inv-loop μ-loop
-piece-count-requires c κs = search needs
+μ-loop number node pieces words piece₀ piece = pieces - piece
 
 loop-holds : tie.Need-loop-holds Inv-loop μ-loop
 loop-holds c = search needs
 
-small : (c : tie.In-loop Inv-loop μ-loop) → c .before .before .before .before .before .args .node * c .before .before .piece-count .result ≤ 255 * 255
+small : (c : tie.In-loop Inv-loop μ-loop) → c .before .before .before .args .node * c .before .before .before .args .pieces ≤ 255 * 255
 small c = mul-le-mul {n₂ = 255} {m₂ = 255} (omega arith) (omega arith)
 
 mul-print-piece : tie.Need-mul-print-piece Inv-loop μ-loop
@@ -54,7 +51,6 @@ print-node-spec =
     (tie.spec
     Inv-loop
     μ-loop
-    piece-count-requires
     loop-holds
     mul-print-piece
     add-print-piece

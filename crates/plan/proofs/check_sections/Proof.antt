@@ -1,133 +1,59 @@
 -- The sections are those of the plan, and their records decide (Verdict). Assumes nothing.
-use mathlib.Core.Path.{_∙_}
+use mathlib.Core.Path.{subst⁻¹, _∙_}
+use native.Mathlib.Omega.{arith}
 use borrow.Author.Needs.{needs}
-use Rattle.plan.proofs.Verdict.{cut-limits, plan-concluded}
+use Rattle.model.specs.AcceptedPlans.{Limits}
+use Rattle.primitives.proofs.Bodies.{fewer}
+use Rattle.plan.proofs.Verdict.{handed-plan, plan-concluded}
 use Rattle.plan.proofs.check_sections.Tie as tie
 use Rattle.plan.proofs.check_sections.Statement.{statement}
 
-sub-regions : tie.Need-sub-regions
-sub-regions c = search needs
+section-body-requires : tie.Need-section-body-requires
+section-body-requires c κs = fewer (c .before .pre .delimited) (omega arith)
 
-part-regions-start : tie.Need-part-regions-start
-part-regions-start c = search needs
+section-body-requires-2 : tie.Need-section-body-requires-2
+section-body-requires-2 c κs = fewer (c .before .before .pre .delimited) (omega arith)
 
-part-regions-end : tie.Need-part-regions-end
-part-regions-end c = search needs
+section-body-requires-3 : tie.Need-section-body-requires-3
+section-body-requires-3 c κs = fewer (c .before .before .before .pre .delimited) (omega arith)
 
-add-maps : tie.Need-add-maps
-add-maps c = search needs
+section-body-requires-4 : tie.Need-section-body-requires-4
+section-body-requires-4 c κs = fewer (c .before .before .before .before .pre .delimited) (omega arith)
 
-sub-maps : tie.Need-sub-maps
-sub-maps c = search needs
+section-body-requires-5 : tie.Need-section-body-requires-5
+section-body-requires-5 c κs = fewer (c .before .before .before .before .before .pre .delimited) (omega arith)
 
-part-maps-start : tie.Need-part-maps-start
-part-maps-start c = search needs
+section-body-requires-6 : tie.Need-section-body-requires-6
+section-body-requires-6 c κs = fewer (c .before .before .before .before .before .before .pre .delimited) (omega arith)
 
-part-maps-end : tie.Need-part-maps-end
-part-maps-end c = search needs
-
-add-supplied : tie.Need-add-supplied
-add-supplied c = search needs
-
-sub-supplied : tie.Need-sub-supplied
-sub-supplied c = search needs
-
-part-supplied-start : tie.Need-part-supplied-start
-part-supplied-start c = search needs
-
-part-supplied-end : tie.Need-part-supplied-end
-part-supplied-end c = search needs
-
-add-statements : tie.Need-add-statements
-add-statements c = search needs
-
-sub-statements : tie.Need-sub-statements
-sub-statements c = search needs
-
-part-statements-start : tie.Need-part-statements-start
-part-statements-start c = search needs
-
-part-statements-end : tie.Need-part-statements-end
-part-statements-end c = search needs
-
-add-nodes : tie.Need-add-nodes
-add-nodes c = search needs
-
-sub-nodes : tie.Need-sub-nodes
-sub-nodes c = search needs
-
-part-nodes-start : tie.Need-part-nodes-start
-part-nodes-start c = search needs
-
-part-nodes-end : tie.Need-part-nodes-end
-part-nodes-end c = search needs
-
-add-assignments : tie.Need-add-assignments
-add-assignments c = search needs
-
-sub-assignments : tie.Need-sub-assignments
-sub-assignments c = search needs
-
-part-assignments-start : tie.Need-part-assignments-start
-part-assignments-start c = search needs
-
-part-assignments-end : tie.Need-part-assignments-end
-part-assignments-end c = search needs
-
-add-steps : tie.Need-add-steps
-add-steps c = search needs
-
-sub-steps : tie.Need-sub-steps
-sub-steps c = search needs
-
-part-steps-start : tie.Need-part-steps-start
-part-steps-start c = search needs
-
-part-steps-end : tie.Need-part-steps-end
-part-steps-end c = search needs
+section-body-requires-7 : tie.Need-section-body-requires-7
+section-body-requires-7 c κs = fewer (c .before .before .before .before .before .before .before .pre .delimited) (omega arith)
 
 check-records-requires : tie.Need-check-records-requires
 check-records-requires c κs =
-    let start = c .before .before .before .before .before .before .before .before in
-    cut-limits _ (start .args .frame) (start .pre)
+    let b = c in
+    subst⁻¹ Limits (handed-plan _ (b .before .before .before .before .before .before .section-body .ensures) (b .before .before .before .before .before .section-body2 .ensures) (b .before .before .before .before .section-body3 .ensures) (b .before .before .before .section-body4 .ensures) (b .before .before .section-body5 .ensures) (b .before .section-body6 .ensures) (b .section-body7 .ensures)) (b .before .before .before .before .before .before .before .before .pre .limits)
+
+conclude-requires : tie.Need-conclude-requires
+conclude-requires c κs = search needs
 
 returns : tie.Need-returns
 returns c =
-    let m = c .before in
-    let start = m .before .before .before .before .before .before .before .before .before in
-    c .conclude .ensures ∙ plan-concluded _ (start .args .frame) (start .pre) (m .check-records .ensures)
+    let b = c .before .before in
+    c .conclude .ensures
+    ∙ plan-concluded _ (b .before .before .before .before .before .before .before .before .pre .passes) (handed-plan _ (b .before .before .before .before .before .before .section-body .ensures) (b .before .before .before .before .before .section-body2 .ensures) (b .before .before .before .before .section-body3 .ensures) (b .before .before .before .section-body4 .ensures) (b .before .before .section-body5 .ensures) (b .before .section-body6 .ensures) (b .section-body7 .ensures)) (c .before .check-records .ensures)
 
 pub check-sections-spec : {M : Type 1} → statement M
 check-sections-spec =
     tie.close
     (tie.spec
-    sub-regions
-    part-regions-start
-    part-regions-end
-    add-maps
-    sub-maps
-    part-maps-start
-    part-maps-end
-    add-supplied
-    sub-supplied
-    part-supplied-start
-    part-supplied-end
-    add-statements
-    sub-statements
-    part-statements-start
-    part-statements-end
-    add-nodes
-    sub-nodes
-    part-nodes-start
-    part-nodes-end
-    add-assignments
-    sub-assignments
-    part-assignments-start
-    part-assignments-end
-    add-steps
-    sub-steps
-    part-steps-start
-    part-steps-end
+    section-body-requires
+    section-body-requires-2
+    section-body-requires-3
+    section-body-requires-4
+    section-body-requires-5
+    section-body-requires-6
+    section-body-requires-7
     check-records-requires
-    (λ c κs. search needs)
+    conclude-requires
     returns)

@@ -5,10 +5,13 @@ use Rattle.report.proofs.print_symbols.Statement.{statement}
 use Rattle.report.proofs.print_symbols.Tie as tie
 
 abbrev Inv-loop : tie.InvT-loop
-Inv-loop plan «data» words symbols symbol₀ symbol = symbol ≤ symbols
+Inv-loop plan «data» words symbols pieces symbol₀ symbol = symbol ≤ symbols
 
 abbrev μ-loop : tie.MeasureT-loop
-μ-loop plan «data» words symbols symbol₀ symbol = symbols - symbol
+μ-loop plan «data» words symbols pieces symbol₀ symbol = symbols - symbol
+
+piece-count-requires : tie.Need-piece-count-requires Inv-loop μ-loop
+piece-count-requires c κs = search needs
 
 loop-holds : tie.Need-loop-holds Inv-loop μ-loop
 loop-holds c = search needs
@@ -40,6 +43,7 @@ print-symbols-spec =
     (tie.spec
     Inv-loop
     μ-loop
+    piece-count-requires
     loop-holds
     assigned-node-requires
     print-node-requires

@@ -1,5 +1,4 @@
 -- The four pairs of bytes make up the eight. Assumes nothing.
-use native.Mathlib.Omega.{arith}
 use Rattle.bitsets.proofs.ByteOrder.{eight-word}
 use borrow.Author.Needs.{needs}
 use Rattle.bitsets.proofs.words.inside_bytes.Statement.{statement}
@@ -7,8 +6,12 @@ use Rattle.bitsets.proofs.words.inside_bytes.Tie as tie
 
 returns : tie.Need-returns
 returns c =
-    let known = c .before .before .before .before in
-    omega (arith, eight-word (known .before .args .s .now) (known .before .args .at) (λ i. known .shared-slice-known .given i .fits))
+    let start = c .before .before .before .before in
+    eight-word (start .before .args .s .now) (start .before .args .at) _ _ _ _ (λ i. start .shared-slice-known .given i .fits)
+    (c .before .before .before .two-bytes .ensures)
+    (c .before .before .two-bytes2 .ensures)
+    (c .before .two-bytes3 .ensures)
+    (c .two-bytes4 .ensures)
 
 pub inside-bytes-spec : {M : Type 1} → statement M
 inside-bytes-spec =
@@ -17,14 +20,8 @@ inside-bytes-spec =
     (λ c. search needs)
     (λ c κs. search needs)
     (λ c. search needs)
-    (λ c. search needs)
-    (λ c κs. search needs)
-    (λ c. search needs)
-    (λ c. search needs)
     (λ c κs. search needs)
     (λ c. search needs)
     (λ c κs. search needs)
-    (λ c. search needs)
-    (λ c. search needs)
-    (λ c. search needs)
+    (λ c κs. search needs)
     returns)

@@ -3,7 +3,7 @@ use Prim.Native.Nat.{_+_, _-_, _≤_}
 use mathlib.Core.Path.{_≡_, refl}
 use native.Mathlib.Omega.{arith}
 use Rattle.model.specs.Bytes.{byte}
-use Rattle.bitsets.proofs.ByteOrder.{joined, joined-room, joined-next, joined-last}
+use Rattle.bitsets.proofs.ByteOrder.{joined, joined-next, joined-last}
 use borrow.Author.Needs.{needs}
 use Rattle.bitsets.proofs.words.last_bytes.Statement.{statement}
 use Rattle.bitsets.proofs.words.last_bytes.Tie as tie
@@ -18,24 +18,12 @@ loop-holds : tie.Need-loop-holds Inv-loop μ-loop
 unfolding joined
 loop-holds c = (omega arith, refl)
 
-mul-result : tie.Need-mul-result Inv-loop μ-loop
-mul-result c =
-    let l = c .before .loop in
-    let room = joined-room (8 - l .i) _ (λ n. c .before .before .shared-slice-known .given (c .before .before .before .args .at + (l .i + n)) .fits) (omega arith) in
-    omega (arith, l .inv .1, room)
-
-add-result : tie.Need-add-result Inv-loop μ-loop
-add-result c =
-    let l = c .before .before .loop in
-    let k = c .before .before .before in
-    let room = joined-room (8 - l .i) _ (λ n. k .shared-slice-known .given (k .before .args .at + (l .i + n)) .fits) (omega arith) in
-    omega (arith, l .inv .1, room)
-
 loop-again : tie.Need-loop-again Inv-loop μ-loop
 loop-again c =
     let l = c .before .before .loop in
-    let a = c .before .before .before .before .args in
-    (omega arith, joined-next (a .s .now) (a .at) (l .i) _ _ (c .before .loop-test .taken) (l .inv .0) (l .inv .1) (c .byte-at .ensures .0))
+    let start = c .before .before .before in
+    let a = start .before .args in
+    (omega arith, joined-next (a .s .now) (λ i. start .shared-slice-known .given i .fits) (a .at) (l .i) _ _ (c .before .loop-test .taken) (l .inv .0) (l .inv .1) (c .byte-at .ensures .0))
 
 returns : tie.Need-returns Inv-loop μ-loop
 returns c = joined-last _ _ (c .before .loop .i) _ (λ i. c .before .before .shared-slice-known .given i .fits) (c .loop-test .left) (c .before .loop .inv .1)
@@ -48,10 +36,8 @@ last-bytes-spec =
     μ-loop
     loop-holds
     (λ c. search needs)
-    mul-result
     (λ c. search needs)
     (λ c κs. search needs)
-    add-result
     (λ c. search needs)
     loop-again
     returns)

@@ -1,44 +1,25 @@
--- Both bytes are below 256. Assumes nothing.
+-- The higher byte shifted up, or the lower one. Assumes nothing.
 use Prim.Native.Nat.{_+_}
-use mathlib.Core.Path.{refl}
 use native.Mathlib.Omega.{arith}
+use Rattle.bitsets.proofs.Bits.{shifted-or}
 use borrow.Author.Needs.{needs}
 use Rattle.bitsets.proofs.words.u16_inside.Statement.{statement}
 use Rattle.bitsets.proofs.words.u16_inside.Tie as tie
 
-shared-slice-read-result : tie.Need-shared-slice-read-result
-shared-slice-read-result c = search needs
-
-cast-result : tie.Need-cast-result
-cast-result c = omega (arith, c .shared-slice-known .given (c .before .args .at))
-
-mul-result : tie.Need-mul-result
-mul-result c = omega (arith, c .shared-slice-known .given (c .before .args .at))
-
-add-result : tie.Need-add-result
-add-result c = search needs
-
-shared-slice-read-result-2 : tie.Need-shared-slice-read-result-2
-shared-slice-read-result-2 c = search needs
-
-cast-result-2 : tie.Need-cast-result-2
-cast-result-2 c = omega (arith, c .shared-slice-known2 .given (c .before .before .args .at + 1))
-
-add-result-2 : tie.Need-add-result-2
-add-result-2 c = omega (arith, c .shared-slice-known2 .given (c .before .before .args .at + 1), c .before .shared-slice-known .given (c .before .before .args .at))
-
 returns : tie.Need-returns
-returns c = refl
+returns c =
+    let at = c .before .before .args .at in
+    let high = c .before .shared-slice-known .given at .fits in
+    let low = c .shared-slice-known2 .given (at + 1) .fits in
+    shifted-or 16 8 _ _ (omega (arith, high)) low
 
 pub u16-inside-spec : {M : Type 1} → statement M
 u16-inside-spec =
     tie.close
     (tie.spec
-    shared-slice-read-result
-    cast-result
-    mul-result
-    add-result
-    shared-slice-read-result-2
-    cast-result-2
-    add-result-2
+    (λ c. search needs)
+    (λ c. omega (arith, c .shared-slice-known .given (c .before .args .at)))
+    (λ c. search needs)
+    (λ c. search needs)
+    (λ c. omega (arith, c .shared-slice-known2 .given (c .before .before .args .at + 1)))
     returns)

@@ -1,16 +1,20 @@
--- The frame's last end is the last boundary. Assumes nothing.
+-- The frame's last place is the last boundary. Assumes nothing.
 use borrow.Author.Needs.{needs}
 use Rattle.model.specs.Tests.{_and_, _==_}
 use Rattle.dataset.specs.Framing.{laidOut}
+use Rattle.dataset.proofs.Framing.{last-place}
 use Rattle.dataset.proofs.data.is_laid_out.Statement.{statement}
 use Rattle.dataset.proofs.data.is_laid_out.Tie as tie
 
 byte-at-requires : tie.Need-byte-at-requires
 byte-at-requires c κs = search needs
 
+array-read-result : tie.Need-array-read-result
+array-read-result c = search needs
+
 returns : tie.Need-returns
 unfolding laidOut _and_ _==_
-returns c = rw (c .before .byte-at .ensures .0, c .before .before .before .pre)
+returns c = rw (c .byte-at .ensures .0, last-place _ (c .before .before .before .pre))
 
 pub is-laid-out-spec : {M : Type 1} → statement M
-is-laid-out-spec = tie.close (tie.spec byte-at-requires returns)
+is-laid-out-spec = tie.close (tie.spec byte-at-requires array-read-result returns)

@@ -1,6 +1,6 @@
 -- By the two cases of the outline. Assumes nothing.
 use mathlib.Core.Path.{sym, _∙_}
-use Rattle.dataset.proofs.Framing.{laid-out-cut}
+use Rattle.dataset.proofs.Framing.{laid-out-delimited}
 use Rattle.dataset.proofs.Reading.{reading-laid-out, reading-refused}
 use borrow.Author.Needs.{needs}
 use Rattle.dataset.proofs.data.read_data.Statement.{statement}
@@ -16,8 +16,7 @@ read-laid-out-requires : tie.Need-read-laid-out-requires
 read-laid-out-requires c κs =
     record {
       few = c .before .before .before .before .before .before .before .pre;
-      ends = c .before .before .read-frame .ensures;
-      cut = rw (c .before .before .read-frame .ensures) (laid-out-cut _ (sym (c .before .is-laid-out .ensures) ∙ c .if1 .taken));
+      delimited = rw (c .before .before .read-frame .ensures) (laid-out-delimited _ (sym (c .before .is-laid-out .ensures) ∙ c .if1 .taken));
     }
 
 returns : tie.Need-returns

@@ -4,7 +4,6 @@ use mathlib.Core.Path.{_≡_, refl}
 use mathlib.Core.List.{[]}
 use lib.ListN.{length, replicate}
 use borrow.Author.Needs.{needs}
-use Rattle.model.specs.Words.{store}
 use Rattle.model.specs.DataSets.{entryStart, size}
 use Rattle.dataset.specs.DataParts.{mapsPlan, entriesData}
 use Rattle.dataset.proofs.Starts.{Placed, none-placed, one-placed, all-placed}

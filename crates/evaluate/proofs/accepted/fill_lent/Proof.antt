@@ -1,7 +1,7 @@
 -- By the test of the number of words. Assumes nothing.
 use borrow.Author.Needs.{needs}
 use native.Mathlib.Omega.{arith}
-use Rattle.evaluate.proofs.Stages.{given, words-few, data-held, words-lacking, words-filled}
+use Rattle.evaluate.proofs.Stages.{words-few, data-held, words-lacking, words-filled}
 use Rattle.evaluate.proofs.accepted.fill_lent.Statement.{statement}
 use Rattle.evaluate.proofs.accepted.fill_lent.Tie as tie
 
@@ -17,7 +17,7 @@ returns c = λ P held. words-lacking P held (c .before .piece-count .ensures .0)
 fill-data-requires : tie.Need-fill-data-requires
 fill-data-requires c κs =
     let ready = c .before .before .before .before .before .before .before .before .before .before .before .before .before .pre in
-    record { plan = ready .plan; held = data-held (ready .plan) (ready .held) (c .before .before .before .before .before .before .before .piece-count .ensures .0) (c .before .before .before .before .before .before .if1 .left); cut = given (ready .plan) (ready .held) .cut }
+    record { plan = ready .plan; held = data-held (ready .plan) (ready .held) (c .before .before .before .before .before .before .before .piece-count .ensures .0) (c .before .before .before .before .before .before .if1 .left) }
 
 returns-2 : tie.Need-returns-2
 returns-2 c =

@@ -5,10 +5,13 @@ use Rattle.examples.proofs.actions.print_nodes.Statement.{statement}
 use Rattle.examples.proofs.actions.print_nodes.Tie as tie
 
 abbrev Inv-loop : tie.InvT-loop
-Inv-loop «data» words nodes node₀ node = node ≤ 48
+Inv-loop «data» words nodes pieces node₀ node = node ≤ 48
 
 abbrev μ-loop : tie.MeasureT-loop
-μ-loop «data» words nodes node₀ node = 48 - node
+μ-loop «data» words nodes pieces node₀ node = 48 - node
+
+piece-count-requires : tie.Need-piece-count-requires Inv-loop μ-loop
+piece-count-requires c κs = search needs
 
 loop-holds : tie.Need-loop-holds Inv-loop μ-loop
 loop-holds c = search needs
@@ -37,6 +40,7 @@ print-nodes-spec =
     (tie.spec
     Inv-loop
     μ-loop
+    piece-count-requires
     loop-holds
     returns
     print-node-requires

@@ -1,20 +1,19 @@
 -- The loop's invariant is Reading: the tables so far, and what is left to scan. Assumes nothing.
 use Prim.Native.Nat.{_-_}
 use mathlib.Core.Path.{refl, _∙_}
-use mathlib.Core.List.{[]}
 use native.Mathlib.Omega.{arith}
 use Rattle.model.proofs.Outcomes.{never}
 use Rattle.model.proofs.Recursion.{below-at}
-use Rattle.layout.specs.Parts.{parts}
-use Rattle.layout.proofs.Filling.{none-filled}
-use Rattle.layout.proofs.Scanning.{scanning-start, scanning-next, scanning-refused, scanning-end}
+use Rattle.expressions.specs.Parts.{nodeParts}
+use Rattle.primitives.proofs.Filling.{none-filled}
+use Rattle.primitives.proofs.Scanning.{scanning-start, scanning-next, scanning-refused, scanning-end}
 use Rattle.expressions.proofs.NodeLaws.{Reading, next-earlier, numbered}
 use borrow.Author.Needs.{needs}
 use Rattle.expressions.proofs.nodes.check_nodes.Statement.{statement}
 use Rattle.expressions.proofs.nodes.check_nodes.Tie as tie
 
 abbrev Inv-loop : tie.InvT-loop
-Inv-loop regions maps supplied nodes count table₀ numbers₀ j₀ table numbers j = Reading (parts regions maps supplied [] nodes [] []) count table numbers j
+Inv-loop regions maps supplied nodes count table₀ numbers₀ j₀ table numbers j = Reading (nodeParts regions maps supplied nodes) count table numbers j
 
 abbrev μ-loop : tie.MeasureT-loop
 μ-loop regions maps supplied nodes count table₀ numbers₀ j₀ table numbers j = count - j

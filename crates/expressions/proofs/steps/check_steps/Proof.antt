@@ -1,18 +1,17 @@
 -- The loop's invariant is Reading: the table so far, and what is left to scan. Assumes nothing.
 use Prim.Native.Nat.{_-_}
 use mathlib.Core.Path.{refl}
-use mathlib.Core.List.{[]}
 use native.Mathlib.Omega.{arith}
 use Rattle.model.proofs.Outcomes.{never}
-use Rattle.layout.specs.Parts.{parts}
-use Rattle.layout.proofs.Scanning.{scanning-start, scanning-next, scanning-refused, scanning-end}
+use Rattle.expressions.specs.Parts.{stepParts}
+use Rattle.primitives.proofs.Scanning.{scanning-start, scanning-next, scanning-refused, scanning-end}
 use Rattle.expressions.proofs.StepLaws.{Reading, next-turn, concluded}
 use borrow.Author.Needs.{needs}
 use Rattle.expressions.proofs.steps.check_steps.Statement.{statement}
 use Rattle.expressions.proofs.steps.check_steps.Tie as tie
 
 abbrev Inv-loop : tie.InvT-loop
-Inv-loop maps supplied nodes steps conclusions₀ count t₀ conclusions t = Reading (parts [] maps supplied [] nodes [] steps) count conclusions t
+Inv-loop maps supplied nodes steps conclusions₀ count t₀ conclusions t = Reading (stepParts maps supplied nodes steps) count conclusions t
 
 abbrev μ-loop : tie.MeasureT-loop
 μ-loop maps supplied nodes steps conclusions₀ count t₀ conclusions t = count - t

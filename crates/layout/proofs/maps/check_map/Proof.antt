@@ -40,7 +40,7 @@ require-requires c κs = search needs
 
 returns : tie.Need-returns
 unfolding mapCheck _and_ _<?_ _≤?_
-returns c = rw (c .require .ensures, c .before .byte-at3 .ensures .0, c .before .before .byte-at2 .ensures .0, c .before .before .before .byte-at .ensures .0)
+returns c = λ P known. rw (known .regions-are, known .maps-are, c .require .ensures, c .before .byte-at3 .ensures .0, c .before .before .byte-at2 .ensures .0, c .before .before .before .byte-at .ensures .0)
 
 pub check-map-spec : {M : Type 1} → statement M
 check-map-spec =

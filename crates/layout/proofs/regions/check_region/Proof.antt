@@ -19,7 +19,7 @@ require-requires c κs = search needs
 
 returns : tie.Need-returns
 unfolding regionCheck _and_ _≤?_
-returns c = rw (c .require .ensures, c .before .byte-at .ensures .0)
+returns c = λ P regions-are. rw (regions-are, c .require .ensures, c .before .byte-at .ensures .0)
 
 pub check-region-spec : {M : Type 1} → statement M
 check-region-spec = tie.close (tie.spec byte-at-requires mul-t7 add-t8 require-requires returns)

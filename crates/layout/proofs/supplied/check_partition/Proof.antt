@@ -31,7 +31,7 @@ require-requires c κs = search needs
 
 returns : tie.Need-returns
 unfolding suppliedCheck _and_ _<?_ _≤?_
-returns c = rw (c .require .ensures, c .before .byte-at2 .ensures .0, c .before .before .byte-at .ensures .0)
+returns c = λ P known. rw (known .regions-are, known .supplied-are, c .require .ensures, c .before .byte-at2 .ensures .0, c .before .before .byte-at .ensures .0)
 
 pub check-partition-spec : {M : Type 1} → statement M
 check-partition-spec =

@@ -2,7 +2,7 @@
 use mathlib.Core.Path.{sym}
 use mathlib.Core.Bool.{false}
 use Rattle.model.proofs.Recursion.{below-at}
-use Rattle.layout.proofs.Filling.{below-past}
+use Rattle.primitives.proofs.Filling.{below-past}
 use borrow.Author.Needs.{needs}
 use Rattle.loops.proofs.lookup.earlier_flag.Statement.{statement}
 use Rattle.loops.proofs.lookup.earlier_flag.Tie as tie

@@ -1,7 +1,7 @@
 -- An earlier entry is in the table, and a byte. Assumes nothing.
 use mathlib.Core.Path.{sym, _∙_}
 use Rattle.model.proofs.Recursion.{below-at}
-use Rattle.layout.proofs.Filling.{below-past}
+use Rattle.primitives.proofs.Filling.{below-past}
 use borrow.Author.Needs.{needs}
 use Rattle.loops.proofs.lookup.earlier_number.Statement.{statement}
 use Rattle.loops.proofs.lookup.earlier_number.Tie as tie

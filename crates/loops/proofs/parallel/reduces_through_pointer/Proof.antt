@@ -12,7 +12,7 @@ use Rattle.loops.specs.Loops.{LoopSpan, PointersKnown, pointerReduction}
 use Rattle.model.proofs.Tests.{among}
 use Rattle.loops.proofs.Harmless.{other-reduction}
 use Rattle.loops.proofs.Spans.{none-before-loop, none-after-loop}
-use Rattle.layout.proofs.Searches.{none-next}
+use Rattle.primitives.proofs.Searches.{none-next}
 use borrow.Author.Needs.{needs}
 use Rattle.loops.proofs.parallel.reduces_through_pointer.Statement.{statement}
 use Rattle.loops.proofs.parallel.reduces_through_pointer.Tie as tie

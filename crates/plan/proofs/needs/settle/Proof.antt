@@ -13,7 +13,7 @@ use Rattle.model.specs.Outcomes.{scan}
 use Rattle.model.proofs.Tests.{same!, among}
 use Rattle.model.proofs.Outcomes.{scan-start, scan-next, scan-stop, scan-end}
 use Rattle.plan.specs.Needs.{settled}
-use Rattle.layout.proofs.Searches.{none-before, none-next, none-at-end}
+use Rattle.primitives.proofs.Searches.{none-before, none-next, none-at-end}
 use Rattle.plan.proofs.Settling.{isFound, not-wanted, concluded, unmet}
 use Rattle.plan.proofs.needs.settle.Statement.{statement}
 use Rattle.plan.proofs.needs.settle.Tie as tie

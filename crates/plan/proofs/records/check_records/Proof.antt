@@ -1,3 +1,4 @@
+-- Sections 1 to 3 in order, then what follows. Assumes nothing.
 use mathlib.Core.Path.{sym, _∙_}
 use Rattle.model.specs.Verdict.{recordsCheck}
 use Rattle.plan.proofs.Stages.{stage-passed, stage-refused}
@@ -5,12 +6,6 @@ use Rattle.plan.proofs.Handed.{regions-handed, maps-handed, supplied-ha
 use borrow.Author.Needs.{needs}
 use Rattle.plan.proofs.records.check_records.Statement.{statement}
 use Rattle.plan.proofs.records.check_records.Tie as tie
-use Rattle.plan.proofs.records.check_records.Reads as reads
-use Rattle.plan.proofs.records.check_records.Lts as lts
-use Rattle.layout.proofs.maps.check_maps.Reads as check-maps-reads
-use Rattle.plan.proofs.records.check_from_statements.Reads as check-from-statements-reads
-use Rattle.layout.proofs.regions.check_regions.Reads as check-regions-reads
-use Rattle.layout.proofs.supplied.check_supplied.Reads as check-supplied-reads
 
 check-regions-requires : tie.Need-check-regions-requires
 check-regions-requires c κs = search needs
@@ -23,7 +18,7 @@ enum-known-refusal c = search needs
 
 returns : tie.Need-returns
 unfolding recordsCheck
-returns c = sym (stage-refused _ (c .before .before .before .check-regions .ensures ∙ regions-handed _ _ _ _ _ _ _) (c .before .refusal .given .1))
+returns c = sym (stage-refused _ (regions-handed _ _ _ _ _ _ _ (c .before .before .before .check-regions .ensures)) (c .before .refusal .given .1))
 
 check-maps-requires : tie.Need-check-maps-requires
 check-maps-requires c κs = search needs
@@ -39,8 +34,8 @@ unfolding recordsCheck
 returns-2 c =
     let regions = c .before .before .before .before in
     sym (
-    stage-passed (regions .before .before .check-regions .ensures ∙ regions-handed _ _ _ _ _ _ _) (regions .enum-told .given .1)
-    ∙ stage-refused _ (c .before .before .before .check-maps .ensures ∙ maps-handed _ _ _ _ _ _ _) (c .before .refusal2 .given .1)
+    stage-passed (regions-handed _ _ _ _ _ _ _ (regions .before .before .check-regions .ensures)) (regions .enum-told .given .1)
+    ∙ stage-refused _ (maps-handed _ _ _ _ _ _ _ (c .before .before .before .check-maps .ensures)) (c .before .refusal2 .given .1)
     )
 
 check-supplied-requires : tie.Need-check-supplied-requires
@@ -58,9 +53,9 @@ returns-3 c =
     let maps = c .before .before .before .before in
     let regions = maps .before .before .before in
     sym (
-    stage-passed (regions .before .before .check-regions .ensures ∙ regions-handed _ _ _ _ _ _ _) (regions .enum-told .given .1)
-    ∙ stage-passed (maps .before .before .check-maps .ensures ∙ maps-handed _ _ _ _ _ _ _) (maps .enum-told2 .given .1)
-    ∙ stage-refused _ (c .before .before .before .check-supplied .ensures ∙ supplied-handed _ _ _ _ _ _ _) (c .before .refusal3 .given .1)
+    stage-passed (regions-handed _ _ _ _ _ _ _ (regions .before .before .check-regions .ensures)) (regions .enum-told .given .1)
+    ∙ stage-passed (maps-handed _ _ _ _ _ _ _ (maps .before .before .check-maps .ensures)) (maps .enum-told2 .given .1)
+    ∙ stage-refused _ (supplied-handed _ _ _ _ _ _ _ (c .before .before .before .check-supplied .ensures)) (c .before .refusal3 .given .1)
     )
 
 check-from-statements-requires : tie.Need-check-from-statements-requires
@@ -73,9 +68,9 @@ returns-4 c =
     let maps = supplied .before .before .before in
     let regions = maps .before .before .before in
     sym (
-    stage-passed (regions .before .before .check-regions .ensures ∙ regions-handed _ _ _ _ _ _ _) (regions .enum-told .given .1)
-    ∙ stage-passed (maps .before .before .check-maps .ensures ∙ maps-handed _ _ _ _ _ _ _) (maps .enum-told2 .given .1)
-    ∙ stage-passed (supplied .before .before .check-supplied .ensures ∙ supplied-handed _ _ _ _ _ _ _) (supplied .enum-told3 .given .1)
+    stage-passed (regions-handed _ _ _ _ _ _ _ (regions .before .before .check-regions .ensures)) (regions .enum-told .given .1)
+    ∙ stage-passed (maps-handed _ _ _ _ _ _ _ (maps .before .before .check-maps .ensures)) (maps .enum-told2 .given .1)
+    ∙ stage-passed (supplied-handed _ _ _ _ _ _ _ (supplied .before .before .check-supplied .ensures)) (supplied .enum-told3 .given .1)
     ∙ sym (c .check-from-statements .ensures)
     )
 

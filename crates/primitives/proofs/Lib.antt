@@ -1,0 +1,4 @@
+pub mod Bodies
+pub mod Scanning
+pub mod Searches
+pub mod Filling

@@ -1,0 +1,14 @@
+-- Past the end the table's default is meant. Assumes nothing.
+use denote.Ref.{now}
+use mathlib.Core.Path.{sym}
+use mathlib.Core.Bool.{false}
+use lib.ListN.{List·getD-eq-default}
+use borrow.Author.Needs.{needs}
+use Rattle.primitives.proofs.lookup.flag_at.Statement.{statement}
+use Rattle.primitives.proofs.lookup.flag_at.Tie as tie
+
+returns-2 : tie.Need-returns-2
+returns-2 c = sym (List·getD-eq-default (now (c .before .args .table)) false (c .if1 .left))
+
+pub flag-at-spec : {M : Type 1} → statement M
+flag-at-spec = tie.close (tie.spec (λ c. search needs) (λ c. search needs) returns-2)

@@ -1,0 +1,5 @@
+// What every reader of bytes stands on: bytes as numbers, checks in a row, entries of tables, bodies of sections.
+pub mod bytes;
+pub mod lookup;
+pub mod outcomes;
+pub mod sections;
