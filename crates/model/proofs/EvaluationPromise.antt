@@ -28,11 +28,10 @@ use Rattle.model.proofs.Tests.{split, fails}
 use Rattle.model.proofs.Outcomes.{conclude-refused, conclude-pass}
 use Rattle.model.proofs.Accepted.{plan-accepted}
 use Rattle.model.proofs.DataAgrees.{data-fits}
-use Rattle.model.proofs.Words.{store-length, store-behind}
 use Rattle.model.proofs.Fitting.{fit}
 use Rattle.model.proofs.NodeSets.{node-within}
 use Rattle.model.proofs.SetsAgree.{sets-agree}
-use Rattle.model.proofs.FinalWords.{filled-holds}
+use Rattle.model.proofs.FinalWords.{filled-length, filled-later, filled-holds}
 use Rattle.model.proofs.Demand3.{Evaluated, evaluated, acceptance-given, demand-3}
 use Rattle.model.proofs.FirstMet.{evaluation-first}
 use Rattle.model.proofs.GivenWhen.{evaluation-refuses}
@@ -66,10 +65,7 @@ module _ (p d : Bytes) (old new : List ℕ) (r : Answer) (answers : r ≡ evalua
         ]
 
     kept : (length new ≡ length old) × (drop (wordsNeeded (planOf p) (dataOf d)) new ≡ drop (wordsNeeded (planOf p) (dataOf d)) old)
-    unfolding filledWords
-    kept =
-        let n = wordsNeeded (planOf p) (dataOf d) in
-        rw filled (store-length old 0 n _, store-behind old 0 n n _ (omega arith))
+    kept = rw filled (filled-length (planOf p) (dataOf d) old, filled-later (planOf p) (dataOf d) old)
 
   refuses : (q : Refusal) → r ≡ Refused q → evaluationCheck p d (length old) ≡ Refuse q
   unfolding evaluation

@@ -6,13 +6,13 @@ use mathlib.Core.List.{List}
 use native.Mathlib.Nat.{mul-le-mul-right, suc-mul}
 use native.Mathlib.Omega.{arith}
 use lib.Arith.{digits-div, digits-mod}
-use lib.ListN.{length, getD}
+use lib.ListN.{length, getD, drop}
 use Rattle.model.specs.Layout.{Plan, nodeCount}
 use Rattle.model.specs.DataSets.{DataSet, pieces}
 use Rattle.model.specs.Membership.{member}
 use Rattle.model.specs.Words.{bit, holds, word, store}
 use Rattle.model.specs.Evaluation.{wordsNeeded, nodeWord, filledWords}
-use Rattle.model.proofs.Words.{store-length, store-inside, store-outside, word-element, holds-at}
+use Rattle.model.proofs.Words.{store-length, store-inside, store-behind, word-element, holds-at}
 
 -- the eight words of a node's piece stand inside those of all m nodes
 pub piece-inside : (N m j i : ℕ) → j < m → i < N → (j * N + i) * 8 + 8 ≤ m * N * 8
@@ -35,9 +35,9 @@ module _ (P : Plan) (D : DataSet) where
     filled-length = store-length old 0 (wordsNeeded P D) (nodeWord P D)
 
     -- "Later words of the slice keep what they held"
-    pub filled-later : (k : ℕ) → wordsNeeded P D ≤ k → getD (filledWords P D old) k 0 ≡ getD old k 0
+    pub filled-later : drop (wordsNeeded P D) (filledWords P D old) ≡ drop (wordsNeeded P D) old
     unfolding filledWords
-    filled-later k h = store-outside old 0 (wordsNeeded P D) (nodeWord P D) k (λ l r. omega arith)
+    filled-later = store-behind old 0 (wordsNeeded P D) (wordsNeeded P D) (nodeWord P D) (omega arith)
 
     -- the members of node j, piece i, and nothing else, are in its words, once the first m nodes are written
     pub written-holds : (m : ℕ) → m * pieces D * 8 ≤ length old → (j i e : ℕ) → j < m → i < pieces D → e < 512

@@ -32,7 +32,7 @@ use Rattle.model.specs.declared.Refusal.the-variants.{Truncated, Unknown
 use Rattle.model.specs.declared.Outcome.{Outcome}
 use Rattle.model.specs.declared.Outcome.the-variants.{Pass, Refuse}
 use Rattle.model.proofs.Tests.{both, lacks, implied, less, most, every-at, pick-false, refuted, fails, same, _also_, Firsts, at-each}
-use Rattle.model.proofs.Outcomes.{passes-then, then-cases, require-pass, required, require-refuse, scan-pass, scan-refuse}
+use Rattle.model.proofs.Outcomes.{then-assoc, passes-then, then-cases, require-pass, required, require-refuse, scan-pass, scan-refuse}
 use Rattle.model.proofs.Turns.{turnOf, stage-passed, item-passed, check-passed, not-itself, ClearUpTo, clear-test, clear-both, ReachedAt, clear-scan, Placed, placed-require, placed-then, scan-stage, clear-items}
 use Rattle.model.proofs.Accepted.{LaidOut, length-body, laid-out, limits}
 use Rattle.model.proofs.LayoutAgrees.{measured, section-length, region-formed, map-formed, supplied-formed}
@@ -52,11 +52,6 @@ then-end : (a : Outcome) → a then Pass ≡ a
 unfolding _then_
 then-end Pass = refl
 then-end (Refuse r) = refl
-
-then-assoc : (a b c : Outcome) → (a then b) then c ≡ a then (b then c)
-unfolding _then_
-then-assoc Pass b c = refl
-then-assoc (Refuse r) b c = refl
 
 -- section and record of a place
 section-of : (k r : ℕ) → r < 256 → (k * 256 + r) / 256 ≡ k

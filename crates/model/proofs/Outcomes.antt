@@ -38,6 +38,11 @@ then-refuse (Refuse q) b r h = inl h
 pub then-cases : {C : Type 0} (a b : Outcome) (r : Refusal) → a then b ≡ Refuse r → (a ≡ Refuse r → C) → (a ≡ Pass → b ≡ Refuse r → C) → C
 then-cases a b r h f g = elim (then-refuse a b r h) [ inl e ↦ f e | inr e ↦ g (e .0) (e .1) ]
 
+pub then-assoc : (a b c : Outcome) → (a then b) then c ≡ a then (b then c)
+unfolding _then_
+then-assoc Pass b c = refl
+then-assoc (Refuse r) b c = refl
+
 -- a test that must pass
 pub require-pass : (b : Bool) (r : Refusal) → require b r ≡ Pass → Is b
 unfolding require

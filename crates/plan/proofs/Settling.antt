@@ -21,11 +21,10 @@ use Rattle.model.specs.declared.Refusal.{Refusal}
 use Rattle.model.specs.declared.Outcome.the-variants.{Pass, Refuse}
 use Rattle.model.specs.declared.Refusal.the-variants.{UnmetNeed}
 use Rattle.model.proofs.Tests.{falsum, one, less}
-use Rattle.model.proofs.Outcomes.{required}
+use Rattle.model.proofs.Outcomes.{required, then-assoc}
 use Rattle.plan.specs.Needs.{NOTHING, UNLISTED, firstClaim, secondClaim, Listed, settled}
 use Rattle.primitives.proofs.Searches.{any-same, none-of}
 use Rattle.expressions.specs.Steps.{subsetNumber, disjointNumber, completeNumber, Concluded}
-use Rattle.plan.proofs.Stages.{then-assoc}
 use Rattle.plan.specs.declared.needs.Found.{Found}
 use Rattle.plan.specs.declared.needs.Found.the-variants.{At, Nowhere}
 

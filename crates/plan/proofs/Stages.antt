@@ -1,5 +1,5 @@
 -- Checks in a row, by the outcome of the first, as its check gave it and as it was taken. Assumes nothing.
-use mathlib.Core.Path.{_≡_, refl, sym, _∙_}
+use mathlib.Core.Path.{_≡_, sym, _∙_}
 use Rattle.model.specs.Outcomes.{_then_}
 use Rattle.model.specs.declared.Refusal.{Refusal}
 use Rattle.model.specs.declared.Outcome.{Outcome}
@@ -12,8 +12,3 @@ stage-passed e pass = rw (sym e ∙ pass)
 pub stage-refused : {o a : Outcome} (b : Outcome) {r : Refusal} → o ≡ a → o ≡ Refuse r → a then b ≡ Refuse r
 unfolding _then_
 stage-refused b e refused = rw (sym e ∙ refused)
-
-pub then-assoc : (a b d : Outcome) → (a then b) then d ≡ a then (b then d)
-unfolding _then_
-then-assoc Pass b d = refl
-then-assoc (Refuse r) b d = refl

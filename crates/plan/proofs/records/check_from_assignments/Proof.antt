@@ -1,7 +1,8 @@
 -- Section 6, then the steps and the needs. Assumes nothing.
 use mathlib.Core.Path.{sym, _∙_}
 use Rattle.plan.proofs.Known.{assignments-known, steps-ready}
-use Rattle.plan.proofs.Stages.{stage-passed, stage-refused, then-assoc}
+use Rattle.model.proofs.Outcomes.{then-assoc}
+use Rattle.plan.proofs.Stages.{stage-passed, stage-refused}
 use borrow.Author.Needs.{needs}
 use Rattle.plan.proofs.records.check_from_assignments.Statement.{statement}
 use Rattle.plan.proofs.records.check_from_assignments.Tie as tie

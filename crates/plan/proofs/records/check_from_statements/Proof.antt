@@ -1,6 +1,7 @@
 -- Section 4 and the loops, whose tables go on to what follows. Assumes nothing.
 use mathlib.Core.Path.{sym, _∙_}
-use Rattle.plan.proofs.Stages.{stage-passed, stage-refused, then-assoc}
+use Rattle.model.proofs.Outcomes.{then-assoc}
+use Rattle.plan.proofs.Stages.{stage-passed, stage-refused}
 use Rattle.plan.proofs.Handed.{loops-handed, tables-handed}
 use borrow.Author.Needs.{needs}
 use Rattle.plan.proofs.records.check_from_statements.Statement.{statement}
