@@ -4,14 +4,8 @@ use Rattle.abi.proofs.Exported.{exported-check}
 use Rattle.abi.proofs.mavisglen_check.Statement.{statement}
 use Rattle.abi.proofs.mavisglen_check.Tie as tie
 
-check-requires : tie.Need-check-requires
-check-requires c κs = search needs
-
-pack-answer-requires : tie.Need-pack-answer-requires
-pack-answer-requires c κs = search needs
-
 returns : tie.Need-returns
 returns c = search (needs, exported-check)
 
 pub mavisglen-check-spec : {M : Type 1} → statement M
-mavisglen-check-spec = tie.close (tie.spec check-requires pack-answer-requires returns)
+mavisglen-check-spec = tie.close (tie.spec (λ c κs. search needs) (λ c κs. search needs) returns)

@@ -5,12 +5,9 @@ use Rattle.model.specs.Packed.{pack}
 use Rattle.abi.proofs.pack.Statement.{statement}
 use Rattle.abi.proofs.pack.Tie as tie
 
-add-result : tie.Need-add-result
-add-result c = search needs
-
 returns : tie.Need-returns
 unfolding pack
 returns c = omega arith
 
 pub pack-spec : {M : Type 1} → statement M
-pack-spec = tie.close (tie.spec add-result returns)
+pack-spec = tie.close (tie.spec (λ c. search needs) returns)

@@ -15,18 +15,6 @@ refused :
 unfolding report
 refused {r} is number place = rw (is, number, place) (sym (no-counts r))
 
-enum-known-answer : tie.Need-enum-known-answer
-enum-known-answer c = search needs
-
-enum-known-answer-2 : tie.Need-enum-known-answer-2
-enum-known-answer-2 c = search needs
-
-refusal-number-requires : tie.Need-refusal-number-requires
-refusal-number-requires c κs = search needs
-
-refusal-place-requires : tie.Need-refusal-place-requires
-refusal-place-requires c κs = search needs
-
 returns : tie.Need-returns
 unfolding report
 returns c = rw (c .before .answer .given .1)
@@ -37,4 +25,4 @@ returns-2 c = refused (c .before .before .before .answer2 .given .1) (c .before 
 pub report-answer-spec : {M : Type 1} → statement M
 report-answer-spec =
     tie.close
-    (tie.spec enum-known-answer enum-known-answer-2 refusal-number-requires refusal-place-requires returns returns-2)
+    (tie.spec (λ c. search needs) (λ c. search needs) (λ c κs. search needs) (λ c κs. search needs) returns returns-2)

@@ -5,11 +5,8 @@ use Rattle.model.proofs.Demand2.{check-promise}
 use Rattle.plan.proofs.check.Tie as tie
 use Rattle.plan.proofs.check.Statement.{statement}
 
-read-requires : tie.Need-read-requires
-read-requires c κs = search needs
-
 returns : tie.Need-returns
 returns c = check-promise _ _ (ap (λ r. r .answer) (c .read .ensures .reading))
 
 pub check-spec : {M : Type 1} → statement M
-check-spec = tie.close (tie.spec read-requires returns)
+check-spec = tie.close (tie.spec (λ c κs. search needs) returns)

@@ -34,9 +34,6 @@ check-records-requires c κs =
     let b = c in
     subst⁻¹ Limits (handed-plan _ (b .before .before .before .before .before .before .section-body .ensures) (b .before .before .before .before .before .section-body2 .ensures) (b .before .before .before .before .section-body3 .ensures) (b .before .before .before .section-body4 .ensures) (b .before .before .section-body5 .ensures) (b .before .section-body6 .ensures) (b .section-body7 .ensures)) (b .before .before .before .before .before .before .before .before .pre .limits)
 
-conclude-requires : tie.Need-conclude-requires
-conclude-requires c κs = search needs
-
 returns : tie.Need-returns
 returns c =
     let b = c .before .before in
@@ -55,5 +52,5 @@ check-sections-spec =
     section-body-requires-6
     section-body-requires-7
     check-records-requires
-    conclude-requires
+    (λ c κs. search needs)
     returns)

@@ -5,17 +5,8 @@ use Rattle.plan.proofs.Verdict.{reading-laid, reading-refused, read-pro
 use Rattle.plan.proofs.read.Tie as tie
 use Rattle.plan.proofs.read.Statement.{statement}
 
-read-frame-requires : tie.Need-read-frame-requires
-read-frame-requires c κs = search needs
-
-enum-told : tie.Need-enum-told
-enum-told c = search needs
-
 check-sections-requires : tie.Need-check-sections-requires
 check-sections-requires c κs = laid _ (c .before .before .before .read-frame .ensures) (c .enum-told .given .1)
-
-enum-known-outcome : tie.Need-enum-known-outcome
-enum-known-outcome c = search needs
 
 returns : tie.Need-returns
 returns c = read-promise _ _ (rw (c .check-sections .ensures) (reading-laid _ (c .before .before .before .before .read-frame .ensures)))
@@ -27,9 +18,8 @@ pub read-spec : {M : Type 1} → statement M
 read-spec =
     tie.close
     (tie.spec
-    read-frame-requires
-    enum-told
+    (λ c κs. search needs) (λ c. search needs)
     check-sections-requires
-    enum-known-outcome
+    (λ c. search needs)
     returns
     returns-2)

@@ -19,7 +19,6 @@ u16-inside-spec =
     (tie.spec
     (λ c. search needs)
     (λ c. omega (arith, c .shared-slice-known .given (c .before .args .at)))
-    (λ c. search needs)
-    (λ c. search needs)
+    (λ c. search needs) (λ c. search needs)
     (λ c. omega (arith, c .shared-slice-known2 .given (c .before .before .args .at + 1)))
     returns)

@@ -5,17 +5,11 @@ use borrow.Author.Needs.{needs}
 use Rattle.dataset.proofs.data.check_bodies.Statement.{statement}
 use Rattle.dataset.proofs.data.check_bodies.Tie as tie
 
-are-lengths-right-requires : tie.Need-are-lengths-right-requires
-are-lengths-right-requires c κs = search needs
-
 check-entries-requires : tie.Need-check-entries-requires
 check-entries-requires c κs = entries-placed _ _ (c .before .before .before .before .before .before .before .before .before .before .before .pre) (sym (c .before .are-lengths-right .ensures) ∙ c .if1 .taken)
 
 check-supplied-requires : tie.Need-check-supplied-requires
 check-supplied-requires c κs = members-placed _ _ (c .before .before .before .before .before .before .before .before .before .before .before .before .pre) (sym (c .before .before .are-lengths-right .ensures) ∙ c .before .if1 .taken)
-
-and-then-requires : tie.Need-and-then-requires
-and-then-requires c κs = search needs
 
 returns : tie.Need-returns
 returns c =
@@ -29,9 +23,9 @@ pub check-bodies-spec : {M : Type 1} → statement M
 check-bodies-spec =
     tie.close
     (tie.spec
-    are-lengths-right-requires
+    (λ c κs. search needs)
     check-entries-requires
     check-supplied-requires
-    and-then-requires
+    (λ c κs. search needs)
     returns
     returns-2)

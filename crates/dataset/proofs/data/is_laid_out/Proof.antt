@@ -6,15 +6,9 @@ use Rattle.dataset.proofs.Framing.{last-place}
 use Rattle.dataset.proofs.data.is_laid_out.Statement.{statement}
 use Rattle.dataset.proofs.data.is_laid_out.Tie as tie
 
-byte-at-requires : tie.Need-byte-at-requires
-byte-at-requires c κs = search needs
-
-array-read-result : tie.Need-array-read-result
-array-read-result c = search needs
-
 returns : tie.Need-returns
 unfolding laidOut _and_ _==_
 returns c = rw (c .byte-at .ensures .0, last-place _ (c .before .before .before .pre))
 
 pub is-laid-out-spec : {M : Type 1} → statement M
-is-laid-out-spec = tie.close (tie.spec byte-at-requires array-read-result returns)
+is-laid-out-spec = tie.close (tie.spec (λ c κs. search needs) (λ c. search needs) returns)

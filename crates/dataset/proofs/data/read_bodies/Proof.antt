@@ -9,12 +9,6 @@ use borrow.Author.Needs.{needs}
 use Rattle.dataset.proofs.data.read_bodies.Statement.{statement}
 use Rattle.dataset.proofs.data.read_bodies.Tie as tie
 
-place-entries-requires : tie.Need-place-entries-requires
-place-entries-requires c κs = search needs
-
-place-members-requires : tie.Need-place-members-requires
-place-members-requires c κs = search needs
-
 check-bodies-requires : tie.Need-check-bodies-requires
 check-bodies-requires c κs =
     let a = c .before .before .before .before .before .before .before .before .before .args in
@@ -40,4 +34,4 @@ returns c =
 pub read-bodies-spec : {M : Type 1} → statement M
 read-bodies-spec =
     tie.close
-    (tie.spec place-entries-requires place-members-requires check-bodies-requires returns)
+    (tie.spec (λ c κs. search needs) (λ c κs. search needs) check-bodies-requires returns)

@@ -6,12 +6,6 @@ use borrow.Author.Needs.{needs}
 use Rattle.dataset.proofs.data.read_data.Statement.{statement}
 use Rattle.dataset.proofs.data.read_data.Tie as tie
 
-read-frame-requires : tie.Need-read-frame-requires
-read-frame-requires c κs = search needs
-
-is-laid-out-requires : tie.Need-is-laid-out-requires
-is-laid-out-requires c κs = search needs
-
 read-laid-out-requires : tie.Need-read-laid-out-requires
 read-laid-out-requires c κs =
     record {
@@ -30,4 +24,4 @@ returns-2 c =
 pub read-data-spec : {M : Type 1} → statement M
 read-data-spec =
     tie.close
-    (tie.spec read-frame-requires is-laid-out-requires read-laid-out-requires returns returns-2)
+    (tie.spec (λ c κs. search needs) (λ c κs. search needs) read-laid-out-requires returns returns-2)

@@ -21,9 +21,6 @@ section-body-requires-3 c κs = fewer (c .before .before .before .before .before
 section-body-requires-4 : tie.Need-section-body-requires-4
 section-body-requires-4 c κs = fewer (c .before .before .before .before .before .before .before .pre .delimited) (omega arith)
 
-read-bodies-requires : tie.Need-read-bodies-requires
-read-bodies-requires c κs = search needs
-
 returns : tie.Need-returns
 returns c =
     let a = c .before .before .before .before .before .before .before .before .before .args in
@@ -39,5 +36,5 @@ read-laid-out-spec =
     section-body-requires-2
     section-body-requires-3
     section-body-requires-4
-    read-bodies-requires
+    (λ c κs. search needs)
     returns)

@@ -4,18 +4,6 @@ use borrow.Author.Needs.{needs}
 use Rattle.dataset.proofs.supplied.column_keeps_flags.Statement.{statement}
 use Rattle.dataset.proofs.supplied.column_keeps_flags.Tie as tie
 
-word-below-requires : tie.Need-word-below-requires
-word-below-requires c κs = search needs
-
-add-word-between : tie.Need-add-word-between
-add-word-between c = search needs
-
-mul-word-between : tie.Need-mul-word-between
-mul-word-between c = search needs
-
-word-between-requires : tie.Need-word-between-requires
-word-between-requires c κs = search needs
-
 returns : tie.Need-returns
 unfolding _and_ _or_ non _==_
 returns c = rw (c .before .before .before .word-between .ensures, c .before .before .before .before .word-below .ensures)
@@ -23,4 +11,4 @@ returns c = rw (c .before .before .before .word-between .ensures, c .before .bef
 pub column-keeps-flags-spec : {M : Type 1} → statement M
 column-keeps-flags-spec =
     tie.close
-    (tie.spec word-below-requires add-word-between mul-word-between word-between-requires returns)
+    (tie.spec (λ c κs. search needs) (λ c. search needs) (λ c. search needs) (λ c κs. search needs) returns)

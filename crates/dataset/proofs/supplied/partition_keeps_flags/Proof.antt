@@ -7,30 +7,6 @@ use borrow.Author.Needs.{needs}
 use Rattle.dataset.proofs.supplied.partition_keeps_flags.Statement.{statement}
 use Rattle.dataset.proofs.supplied.partition_keeps_flags.Tie as tie
 
-mul-byte-at : tie.Need-mul-byte-at
-mul-byte-at c = search needs
-
-byte-at-requires : tie.Need-byte-at-requires
-byte-at-requires c κs = search needs
-
-mul-u16-at : tie.Need-mul-u16-at
-mul-u16-at c = search needs
-
-u16-at-requires : tie.Need-u16-at-requires
-u16-at-requires c κs = search needs
-
-mul-byte-at-2 : tie.Need-mul-byte-at-2
-mul-byte-at-2 c = search needs
-
-add-byte-at : tie.Need-add-byte-at
-add-byte-at c = search needs
-
-byte-at-requires-2 : tie.Need-byte-at-requires-2
-byte-at-requires-2 c κs = search needs
-
-byte-at-requires-3 : tie.Need-byte-at-requires-3
-byte-at-requires-3 c κs = search needs
-
 columns-keep-flags-requires : tie.Need-columns-keep-flags-requires
 unfolding size
 columns-keep-flags-requires c κs =
@@ -53,13 +29,7 @@ pub partition-keeps-flags-spec : {M : Type 1} → statement M
 partition-keeps-flags-spec =
     tie.close
     (tie.spec
-    mul-byte-at
-    byte-at-requires
-    mul-u16-at
-    u16-at-requires
-    mul-byte-at-2
-    add-byte-at
-    byte-at-requires-2
-    byte-at-requires-3
+    (λ c. search needs) (λ c κs. search needs) (λ c. search needs) (λ c κs. search needs) (λ c. search needs) (λ c. search needs)
+    (λ c κs. search needs) (λ c κs. search needs)
     columns-keep-flags-requires
     returns)

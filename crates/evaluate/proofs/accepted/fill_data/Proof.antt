@@ -20,9 +20,6 @@ fill-all-requires c κs =
     let ready = c .before .before .before .before .before .before .before .before .before .before .before .pre in
     record { plan = ready .plan; set = _; handed = all-handed (ready .plan) (c .before .before .before .section-body .ensures) (c .before .before .section-body2 .ensures) (c .before .section-body3 .ensures) (ready .held) }
 
-same-length : tie.Need-same-length
-same-length c = search needs
-
 returns : tie.Need-returns
 returns c = λ P held. c .before .before .fill-all .ensures P _ (all-handed P (c .before .before .before .before .before .before .section-body .ensures) (c .before .before .before .before .before .section-body2 .ensures) (c .before .before .before .before .section-body3 .ensures) held)
 
@@ -34,5 +31,5 @@ fill-data-spec =
     section-body-requires-2
     section-body-requires-3
     fill-all-requires
-    same-length
+    (λ c. search needs)
     returns)

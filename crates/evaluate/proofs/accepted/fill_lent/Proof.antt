@@ -33,8 +33,7 @@ fill-lent-spec =
     mul-needed
     mul-needed-2
     returns
-    (λ c. search needs)
-    (λ c. search needs)
+    (λ c. search needs) (λ c. search needs)
     fill-data-requires
     (λ c. search needs)
     returns-2)

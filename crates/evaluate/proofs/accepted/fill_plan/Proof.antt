@@ -23,9 +23,6 @@ fill-sections-requires : tie.Need-fill-sections-requires
 fill-sections-requires c κs =
     record { plan = planOf _; regions-are = c .before .before .before .before .section-body .ensures; sections = plan-sections (c .before .before .before .before .before .before .before .before .before .pre) (c .before .before .before .section-body2 .ensures) (c .before .before .section-body3 .ensures) (c .before .section-body4 .ensures) }
 
-same-length : tie.Need-same-length
-same-length c = search needs
-
 returns : tie.Need-returns
 returns c =
     c .before .before .fill-sections .ensures (planOf _) (c .before .before .before .before .before .before .before .section-body .ensures) (plan-sections (c .before .before .before .before .before .before .before .before .before .before .before .before .pre) (c .before .before .before .before .before .before .section-body2 .ensures) (c .before .before .before .before .before .section-body3 .ensures) (c .before .before .before .before .section-body4 .ensures))
@@ -39,5 +36,5 @@ fill-plan-spec =
     section-body-requires-3
     section-body-requires-4
     fill-sections-requires
-    same-length
+    (λ c. search needs)
     returns)

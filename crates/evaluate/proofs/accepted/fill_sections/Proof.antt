@@ -33,7 +33,6 @@ fill-sections-spec =
     read-data-requires
     (λ c. search needs)
     fill-lent-requires
-    (λ c. search needs)
-    (λ c. search needs)
+    (λ c. search needs) (λ c. search needs)
     returns
     returns-2)

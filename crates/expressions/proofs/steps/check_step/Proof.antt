@@ -52,8 +52,6 @@ check-step-spec =
     (λ c κs. search needs)
     premises-of-requires
     is-licensed-requires
-    (λ c κs. search needs)
-    (λ c. search needs)
-    (λ c. search needs)
+    (λ c κs. search needs) (λ c. search needs) (λ c. search needs)
     returns
     returns-2)

@@ -12,27 +12,15 @@ use Rattle.layout.specs.Frames.{frameIf}
 use Rattle.layout.proofs.frame.read_frame.Tie as tie
 use Rattle.layout.proofs.frame.read_frame.Statement.{statement}
 
-refuse-requires : tie.Need-refuse-requires
-refuse-requires c κs = search needs
-
 returns : tie.Need-returns
 unfolding layoutCheck frameIf require _then_ _≤?_
 returns c = rw (c .refuse .ensures, lt-leb 1 (length (now (c .before .before .before .args .plan))) (omega arith))
-
-shared-slice-read-if2 : tie.Need-shared-slice-read-if2
-shared-slice-read-if2 c = search needs
-
-refuse-requires-2 : tie.Need-refuse-requires-2
-refuse-requires-2 c κs = search needs
 
 returns-2 : tie.Need-returns-2
 unfolding layoutCheck frameIf require _then_ _≤?_ _==_
 returns-2 c =
     let p = now (c .before .before .before .before .before .args .plan) in
     rw (c .refuse2 .ensures, le-leb 1 (length p) (omega arith), ne-eqb (byte p 0) 1 (c .before .if2 .taken))
-
-read-sections-requires : tie.Need-read-sections-requires
-read-sections-requires c κs = search needs
 
 returns-3 : tie.Need-returns-3
 unfolding layoutCheck require _then_ _≤?_ _==_
@@ -42,4 +30,4 @@ returns-3 c =
 
 pub read-frame-spec : {M : Type 1} → statement M
 read-frame-spec =
-    tie.close (tie.spec refuse-requires returns shared-slice-read-if2 refuse-requires-2 returns-2 read-sections-requires returns-3)
+    tie.close (tie.spec (λ c κs. search needs) returns (λ c. search needs) (λ c κs. search needs) returns-2 (λ c κs. search needs) returns-3)

@@ -13,12 +13,6 @@ use Rattle.layout.specs.declared.frame.Shape.{Shape}
 use Rattle.layout.proofs.frame.shape_of.Tie as tie
 use Rattle.layout.proofs.frame.shape_of.Statement.{statement}
 
-mul-result : tie.Need-mul-result
-mul-result c = search needs
-
-array-copy-out-result : tie.Need-array-copy-out-result
-array-copy-out-result c = search needs
-
 -- the rows of the definition, as the code has them
 abbrev at : ℕ → Shape
 at section = getD (map row shapes) section (record { width = 0; fewest = 0; most = 0 })
@@ -35,4 +29,4 @@ returns c =
     (at-each (λ k. 0 < shapeOf k .width) 0 7 (lit< tt, (lit< tt, (lit< tt, (lit< tt, (lit< tt, (lit< tt, (lit< tt, tt))))))) section (omega arith) (omega arith))
 
 pub shape-of-spec : {M : Type 1} → statement M
-shape-of-spec = tie.close (tie.spec mul-result array-copy-out-result returns)
+shape-of-spec = tie.close (tie.spec (λ c. search needs) (λ c. search needs) returns)

@@ -5,27 +5,6 @@ use Rattle.listing.proofs.Appended.{behind, shown}
 use Rattle.listing.proofs.lines.accepted_line.Statement.{statement}
 use Rattle.listing.proofs.lines.accepted_line.Tie as tie
 
-slice-aggregate-append-bytes : tie.Need-slice-aggregate-append-bytes
-slice-aggregate-append-bytes c = search needs
-
-append-bytes-requires : tie.Need-append-bytes-requires
-append-bytes-requires c κs = search needs
-
-append-spaced-requires : tie.Need-append-spaced-requires
-append-spaced-requires c κs = search needs
-
-append-spaced-requires-2 : tie.Need-append-spaced-requires-2
-append-spaced-requires-2 c κs = search needs
-
-append-spaced-requires-3 : tie.Need-append-spaced-requires-3
-append-spaced-requires-3 c κs = search needs
-
-append-byte-requires : tie.Need-append-byte-requires
-append-byte-requires c κs = search needs
-
-same-length : tie.Need-same-length
-same-length c = search needs
-
 returns : tie.Need-returns
 unfolding acceptedText
 returns c =
@@ -40,11 +19,6 @@ pub accepted-line-spec : {M : Type 1} → statement M
 accepted-line-spec =
     tie.close
     (tie.spec
-    slice-aggregate-append-bytes
-    append-bytes-requires
-    append-spaced-requires
-    append-spaced-requires-2
-    append-spaced-requires-3
-    append-byte-requires
-    same-length
+    (λ c. search needs) (λ c κs. search needs) (λ c κs. search needs) (λ c κs. search needs) (λ c κs. search needs) (λ c κs. search needs)
+    (λ c. search needs)
     returns)

@@ -5,24 +5,6 @@ use Rattle.listing.proofs.Appended.{behind, shown}
 use Rattle.listing.proofs.lines.piece_line.Statement.{statement}
 use Rattle.listing.proofs.lines.piece_line.Tie as tie
 
-append-decimal-requires : tie.Need-append-decimal-requires
-append-decimal-requires c κs = search needs
-
-append-spaced-requires : tie.Need-append-spaced-requires
-append-spaced-requires c κs = search needs
-
-append-byte-requires : tie.Need-append-byte-requires
-append-byte-requires c κs = search needs
-
-append-members-requires : tie.Need-append-members-requires
-append-members-requires c κs = search needs
-
-append-byte-requires-2 : tie.Need-append-byte-requires-2
-append-byte-requires-2 c κs = search needs
-
-same-length : tie.Need-same-length
-same-length c = search needs
-
 returns : tie.Need-returns
 unfolding pieceText
 returns c =
@@ -37,10 +19,5 @@ pub piece-line-spec : {M : Type 1} → statement M
 piece-line-spec =
     tie.close
     (tie.spec
-    append-decimal-requires
-    append-spaced-requires
-    append-byte-requires
-    append-members-requires
-    append-byte-requires-2
-    same-length
+    (λ c κs. search needs) (λ c κs. search needs) (λ c κs. search needs) (λ c κs. search needs) (λ c κs. search needs) (λ c. search needs)
     returns)

@@ -8,15 +8,6 @@ use borrow.Author.Needs.{needs}
 use Rattle.listing.proofs.members.append_member.Statement.{statement}
 use Rattle.listing.proofs.members.append_member.Tie as tie
 
-is-member-requires : tie.Need-is-member-requires
-is-member-requires c κs = search needs
-
-append-spaced-requires : tie.Need-append-spaced-requires
-append-spaced-requires c κs = search needs
-
-same-length : tie.Need-same-length
-same-length c = search needs
-
 returns : tie.Need-returns
 unfolding memberText
 returns c =
@@ -31,4 +22,4 @@ returns-2 c =
 
 pub append-member-spec : {M : Type 1} → statement M
 append-member-spec =
-    tie.close (tie.spec is-member-requires append-spaced-requires same-length returns returns-2)
+    tie.close (tie.spec (λ c κs. search needs) (λ c κs. search needs) (λ c. search needs) returns returns-2)

@@ -8,12 +8,6 @@ use borrow.Author.Needs.{needs}
 use Rattle.listing.proofs.members.is_member.Statement.{statement}
 use Rattle.listing.proofs.members.is_member.Tie as tie
 
-word-at-requires : tie.Need-word-at-requires
-word-at-requires c κs = search needs
-
-shr-result : tie.Need-shr-result
-shr-result c = search needs
-
 returns : tie.Need-returns
 unfolding holds bit _==_
 returns c =
@@ -21,4 +15,4 @@ returns c =
     ap (λ (x : ℕ). x == 1) (and-mask (c .word-at .result / 2 ^ place) 1) ∙ ap (λ (w : ℕ). bit w place) (c .word-at .ensures)
 
 pub is-member-spec : {M : Type 1} → statement M
-is-member-spec = tie.close (tie.spec word-at-requires shr-result returns)
+is-member-spec = tie.close (tie.spec (λ c κs. search needs) (λ c. search needs) returns)

@@ -8,21 +8,6 @@ use borrow.Author.Needs.{needs}
 use Rattle.listing.proofs.members.word_at.Statement.{statement}
 use Rattle.listing.proofs.members.word_at.Tie as tie
 
-sub-if2 : tie.Need-sub-if2
-sub-if2 c = search needs
-
-add-result : tie.Need-add-result
-add-result c = search needs
-
-mul-result : tie.Need-mul-result
-mul-result c = search needs
-
-shared-slice-read-result : tie.Need-shared-slice-read-result
-shared-slice-read-result c = search needs
-
-returns : tie.Need-returns
-returns c = search needs
-
 returns-2 : tie.Need-returns-2
 returns-2 c =
     let args = c .before .before .args in
@@ -36,4 +21,4 @@ returns-3 c =
 pub word-at-spec : {M : Type 1} → statement M
 word-at-spec =
     tie.close
-    (tie.spec sub-if2 add-result mul-result shared-slice-read-result returns returns-2 returns-3)
+    (tie.spec (λ c. search needs) (λ c. search needs) (λ c. search needs) (λ c. search needs) (λ c. search needs) returns-2 returns-3)

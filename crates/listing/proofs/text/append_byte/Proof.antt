@@ -5,17 +5,8 @@ use Rattle.listing.proofs.Appended.{byte-behind}
 use Rattle.listing.proofs.text.append_byte.Statement.{statement}
 use Rattle.listing.proofs.text.append_byte.Tie as tie
 
-slice-write-line : tie.Need-slice-write-line
-slice-write-line c = search needs
-
-add-result : tie.Need-add-result
-add-result c = search needs
-
-same-length : tie.Need-same-length
-same-length c = search needs
-
 returns : tie.Need-returns
 returns c = byte-behind (now (c .args .line)) (c .args .at) (c .args .byte) (c .pre)
 
 pub append-byte-spec : {M : Type 1} → statement M
-append-byte-spec = tie.close (tie.spec slice-write-line add-result same-length returns)
+append-byte-spec = tie.close (tie.spec (λ c. search needs) (λ c. search needs) (λ c. search needs) returns)

@@ -6,22 +6,10 @@ use Rattle.listing.proofs.Digits.{few-digits, decimal-is, decimal-short
 use Rattle.listing.proofs.text.append_decimal.Statement.{statement}
 use Rattle.listing.proofs.text.append_decimal.Tie as tie
 
-decimal-requires : tie.Need-decimal-requires
-decimal-requires c κs = search needs
-
-array-share-prefix-digits : tie.Need-array-share-prefix-digits
-array-share-prefix-digits c = search needs
-
-slice-aggregate-append-bytes : tie.Need-slice-aggregate-append-bytes
-slice-aggregate-append-bytes c = search needs
-
 append-bytes-requires : tie.Need-append-bytes-requires
 append-bytes-requires c κs =
     let d = c .before .before .decimal in
     omega (arith, few-digits (d .result) (c .before .before .before .before .before .args .number) (search needs) (d .ensures .1 .0), d .ensures .0 .1)
-
-same-length : tie.Need-same-length
-same-length c = search needs
 
 returns : tie.Need-returns
 returns c =
@@ -36,9 +24,7 @@ pub append-decimal-spec : {M : Type 1} → statement M
 append-decimal-spec =
     tie.close
     (tie.spec
-    decimal-requires
-    array-share-prefix-digits
-    slice-aggregate-append-bytes
+    (λ c κs. search needs) (λ c. search needs) (λ c. search needs)
     append-bytes-requires
-    same-length
+    (λ c. search needs)
     returns)

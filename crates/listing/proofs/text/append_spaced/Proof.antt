@@ -6,15 +6,6 @@ use Rattle.listing.proofs.Appended.{behind}
 use Rattle.listing.proofs.text.append_spaced.Statement.{statement}
 use Rattle.listing.proofs.text.append_spaced.Tie as tie
 
-append-byte-requires : tie.Need-append-byte-requires
-append-byte-requires c κs = search needs
-
-append-decimal-requires : tie.Need-append-decimal-requires
-append-decimal-requires c κs = search needs
-
-same-length : tie.Need-same-length
-same-length c = search needs
-
 returns : tie.Need-returns
 unfolding spaced
 returns c =
@@ -24,4 +15,4 @@ returns c =
 
 pub append-spaced-spec : {M : Type 1} → statement M
 append-spaced-spec =
-    tie.close (tie.spec append-byte-requires append-decimal-requires same-length returns)
+    tie.close (tie.spec (λ c κs. search needs) (λ c κs. search needs) (λ c. search needs) returns)

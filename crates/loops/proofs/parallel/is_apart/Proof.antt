@@ -18,7 +18,5 @@ pub is-apart-spec : {M : Type 1} → statement M
 is-apart-spec =
     tie.close
     (tie.spec
-    (λ c κs. search needs)
-    (λ c κs. search needs)
-    (λ c κs. search needs)
+    (λ c κs. search needs) (λ c κs. search needs) (λ c κs. search needs)
     returns)

@@ -55,7 +55,6 @@ is-conflict-free-spec =
     loop-holds
     (λ c κs. search needs)
     returns
-    (λ c. search needs)
-    (λ c. search needs)
+    (λ c. search needs) (λ c. search needs)
     loop-again
     returns-2)

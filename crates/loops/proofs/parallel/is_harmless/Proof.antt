@@ -51,8 +51,7 @@ pub is-harmless-spec : {M : Type 1} → statement M
 is-harmless-spec =
     tie.close
     (tie.spec
-    (λ c κs. search needs)
-    (λ c κs. search needs)
+    (λ c κs. search needs) (λ c κs. search needs)
     returns
     (λ c κs. search needs)
     returns-2

@@ -44,7 +44,6 @@ is-parallelizable-spec =
     loop-holds
     (λ c κs. search needs)
     returns
-    (λ c. search needs)
-    (λ c. search needs)
+    (λ c. search needs) (λ c. search needs)
     loop-again
     returns-2)

@@ -49,10 +49,8 @@ loop-end-spec =
     μ-loop
     (λ c. search needs)
     loop-holds
-    (λ c κs. search needs)
-    (λ c κs. search needs)
+    (λ c κs. search needs) (λ c κs. search needs)
     returns
-    (λ c. search needs)
-    (λ c. search needs)
+    (λ c. search needs) (λ c. search needs)
     loop-again
     returns-2)

@@ -65,7 +65,6 @@ reduces-through-pointer-spec =
     loop-holds
     (λ c κs. search needs)
     returns
-    (λ c. search needs)
-    (λ c. search needs)
+    (λ c. search needs) (λ c. search needs)
     loop-again
     returns-2)

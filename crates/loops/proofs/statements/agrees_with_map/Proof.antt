@@ -12,20 +12,9 @@ unfolding kind statementAgreesBy _==_
 agrees-with-map-spec =
     tie.close
     (tie.spec
-    (λ c. search needs)
-    (λ c. search needs)
-    (λ c κs. search needs)
-    (λ c. search needs)
-    (λ c κs. search needs)
-    (λ c κs. search needs)
-    (λ c. search needs)
-    (λ c. search needs)
-    (λ c. search needs)
-    (λ c. search needs)
-    (λ c. search needs)
-    (λ c. search needs)
-    (λ c. search needs)
-    (λ c. search needs)
+    (λ c. search needs) (λ c. search needs) (λ c κs. search needs) (λ c. search needs) (λ c κs. search needs) (λ c κs. search needs)
+    (λ c. search needs) (λ c. search needs) (λ c. search needs) (λ c. search needs) (λ c. search needs) (λ c. search needs)
+    (λ c. search needs) (λ c. search needs)
     (λ c. agrees-by _ _ (c .before .before .kind-at .ensures) (c .enum-told .given .1) refl)
     (λ c. agrees-by _ _ (c .before .before .kind-at .ensures) (c .enum-told2 .given .1) (rw (c .before .before .before .byte-at2 .ensures .0, c .before .before .before .before .byte-at .ensures .0, c .before .before .before .before .before .before .before .pre .region-is)))
     (λ c. agrees-by _ _ (c .before .before .kind-at .ensures) (c .enum-told3 .given .1) (rw (c .before .before .before .byte-at2 .ensures .0, c .before .before .before .before .byte-at .ensures .0, c .before .before .before .before .before .before .before .pre .region-is)))

@@ -11,15 +11,8 @@ unfolding centeredBy
 is-centered-spec =
     tie.close
     (tie.spec
-    (λ c κs. search needs)
-    (λ c. search needs)
-    (λ c. search needs)
-    (λ c. search needs)
-    (λ c. search needs)
-    (λ c. search needs)
-    (λ c. search needs)
-    (λ c. search needs)
-    (λ c. search needs)
+    (λ c κs. search needs) (λ c. search needs) (λ c. search needs) (λ c. search needs) (λ c. search needs) (λ c. search needs)
+    (λ c. search needs) (λ c. search needs) (λ c. search needs)
     (λ c. centered-by _ _ (c .before .before .kind-at .ensures) (c .enum-told .given .1) _ refl)
     (λ c. centered-by _ _ (c .before .before .kind-at .ensures) (c .enum-told2 .given .1) _ refl)
     (λ c. centered-by _ _ (c .before .before .kind-at .ensures) (c .enum-told3 .given .1) _ refl)

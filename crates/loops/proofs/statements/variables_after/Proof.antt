@@ -33,8 +33,7 @@ pub variables-after-spec : {M : Type 1} → statement M
 variables-after-spec =
     tie.close
     (tie.spec
-    (λ c κs. search needs)
-    (λ c. search needs)
+    (λ c κs. search needs) (λ c. search needs)
     returns
     (λ c κs. search needs)
     element-write-after-2

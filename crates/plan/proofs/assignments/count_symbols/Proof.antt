@@ -37,8 +37,6 @@ count-symbols-spec =
     Inv-loop
     μ-loop
     loop-holds
-    (λ c κs. search needs)
-    (λ c. search needs)
-    (λ c. search needs)
+    (λ c κs. search needs) (λ c. search needs) (λ c. search needs)
     loop-again
     returns)

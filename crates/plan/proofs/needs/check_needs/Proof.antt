@@ -20,6 +20,5 @@ check-needs-spec =
     (tie.spec
     (λ c κs. search needs)
     (λ c. sym (c .before .before .list-needs .ensures .0))
-    (λ c. search needs)
-    (λ c κs. search needs)
+    (λ c. search needs) (λ c κs. search needs)
     returns)

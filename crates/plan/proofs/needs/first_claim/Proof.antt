@@ -46,11 +46,9 @@ pub first-claim-spec : {M : Type 1} → statement M
 first-claim-spec =
     tie.close
     (tie.spec
-    (λ c κs. search needs)
-    (λ c κs. search needs)
+    (λ c κs. search needs) (λ c κs. search needs)
     returns
-    (λ c κs. search needs)
-    (λ c κs. search needs)
+    (λ c κs. search needs) (λ c κs. search needs)
     returns-2
     subset-number-requires
     returns-3

@@ -49,10 +49,8 @@ image-node-spec =
     μ-loop
     (λ c κs. search needs)
     loop-holds
-    (λ c. search needs)
-    (λ c. search needs)
+    (λ c. search needs) (λ c. search needs)
     returns
-    (λ c. search needs)
-    (λ c. search needs)
+    (λ c. search needs) (λ c. search needs)
     loop-again
     returns-2)

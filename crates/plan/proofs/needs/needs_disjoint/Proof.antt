@@ -27,8 +27,6 @@ pub needs-disjoint-spec : {M : Type 1} → statement M
 needs-disjoint-spec =
     tie.close
     (tie.spec
-    (λ c κs. search needs)
-    (λ c κs. search needs)
-    (λ c κs. search needs)
+    (λ c κs. search needs) (λ c κs. search needs) (λ c κs. search needs)
     returns
     returns-2)

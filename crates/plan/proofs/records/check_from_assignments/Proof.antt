@@ -31,9 +31,7 @@ pub check-from-assignments-spec : {M : Type 1} → statement M
 check-from-assignments-spec =
     tie.close
     (tie.spec
-    (λ c κs. search needs)
-    (λ c. search needs)
-    (λ c. search needs)
+    (λ c κs. search needs) (λ c. search needs) (λ c. search needs)
     returns
     check-from-steps-requires
     returns-2)

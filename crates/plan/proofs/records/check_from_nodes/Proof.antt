@@ -30,9 +30,7 @@ pub check-from-nodes-spec : {M : Type 1} → statement M
 check-from-nodes-spec =
     tie.close
     (tie.spec
-    (λ c κs. search needs)
-    (λ c. search needs)
-    (λ c. search needs)
+    (λ c κs. search needs) (λ c. search needs) (λ c. search needs)
     returns
     (λ c. search needs)
     check-from-assignments-requires

@@ -24,9 +24,7 @@ pub check-from-steps-spec : {M : Type 1} → statement M
 check-from-steps-spec =
     tie.close
     (tie.spec
-    (λ c κs. search needs)
-    (λ c. search needs)
-    (λ c. search needs)
+    (λ c κs. search needs) (λ c. search needs) (λ c. search needs)
     returns
     (λ c κs. search needs)
     returns-2)

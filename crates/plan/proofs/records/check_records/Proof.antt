@@ -7,27 +7,9 @@ use borrow.Author.Needs.{needs}
 use Rattle.plan.proofs.records.check_records.Statement.{statement}
 use Rattle.plan.proofs.records.check_records.Tie as tie
 
-check-regions-requires : tie.Need-check-regions-requires
-check-regions-requires c κs = search needs
-
-enum-told : tie.Need-enum-told
-enum-told c = search needs
-
-enum-known-refusal : tie.Need-enum-known-refusal
-enum-known-refusal c = search needs
-
 returns : tie.Need-returns
 unfolding recordsCheck
 returns c = sym (stage-refused _ (regions-handed _ _ _ _ _ _ _ (c .before .before .before .check-regions .ensures)) (c .before .refusal .given .1))
-
-check-maps-requires : tie.Need-check-maps-requires
-check-maps-requires c κs = search needs
-
-enum-told-2 : tie.Need-enum-told-2
-enum-told-2 c = search needs
-
-enum-known-refusal-2 : tie.Need-enum-known-refusal-2
-enum-known-refusal-2 c = search needs
 
 returns-2 : tie.Need-returns-2
 unfolding recordsCheck
@@ -37,15 +19,6 @@ returns-2 c =
     stage-passed (regions-handed _ _ _ _ _ _ _ (regions .before .before .check-regions .ensures)) (regions .enum-told .given .1)
     ∙ stage-refused _ (maps-handed _ _ _ _ _ _ _ (c .before .before .before .check-maps .ensures)) (c .before .refusal2 .given .1)
     )
-
-check-supplied-requires : tie.Need-check-supplied-requires
-check-supplied-requires c κs = search needs
-
-enum-told-3 : tie.Need-enum-told-3
-enum-told-3 c = search needs
-
-enum-known-refusal-3 : tie.Need-enum-known-refusal-3
-enum-known-refusal-3 c = search needs
 
 returns-3 : tie.Need-returns-3
 unfolding recordsCheck
@@ -57,9 +30,6 @@ returns-3 c =
     ∙ stage-passed (maps-handed _ _ _ _ _ _ _ (maps .before .before .check-maps .ensures)) (maps .enum-told2 .given .1)
     ∙ stage-refused _ (supplied-handed _ _ _ _ _ _ _ (c .before .before .before .check-supplied .ensures)) (c .before .refusal3 .given .1)
     )
-
-check-from-statements-requires : tie.Need-check-from-statements-requires
-check-from-statements-requires c κs = search needs
 
 returns-4 : tie.Need-returns-4
 unfolding recordsCheck
@@ -78,17 +48,11 @@ pub check-records-spec : {M : Type 1} → statement M
 check-records-spec =
     tie.close
     (tie.spec
-    check-regions-requires
-    enum-told
-    enum-known-refusal
+    (λ c κs. search needs) (λ c. search needs) (λ c. search needs)
     returns
-    check-maps-requires
-    enum-told-2
-    enum-known-refusal-2
+    (λ c κs. search needs) (λ c. search needs) (λ c. search needs)
     returns-2
-    check-supplied-requires
-    enum-told-3
-    enum-known-refusal-3
+    (λ c κs. search needs) (λ c. search needs) (λ c. search needs)
     returns-3
-    check-from-statements-requires
+    (λ c κs. search needs)
     returns-4)

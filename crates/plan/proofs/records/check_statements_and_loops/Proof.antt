@@ -36,12 +36,10 @@ pub check-statements-and-loops-spec : {M : Type 1} → statement M
 check-statements-and-loops-spec =
     tie.close
     (tie.spec
-    (λ c κs. search needs)
-    (λ c. search needs)
+    (λ c κs. search needs) (λ c. search needs)
     (λ c. sym (tables (c .before) .operands-are .room))
     (λ c. sym (tables (c .before .before) .regions-are .room))
     (λ c. sym (tables (c .before .before .before) .centers-are .room))
-    (λ c κs. search needs)
-    (λ c. search needs)
+    (λ c κs. search needs) (λ c. search needs)
     returns
     returns-2)

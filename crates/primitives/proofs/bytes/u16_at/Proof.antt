@@ -7,24 +7,6 @@ use borrow.Author.Needs.{needs}
 use Rattle.primitives.proofs.bytes.u16_at.Tie as tie
 use Rattle.primitives.proofs.bytes.u16_at.Statement.{statement}
 
-byte-at-requires : tie.Need-byte-at-requires
-byte-at-requires c κs = search needs
-
-mul-result : tie.Need-mul-result
-mul-result c = search needs
-
-add-byte-at : tie.Need-add-byte-at
-add-byte-at c = search needs
-
-byte-at-requires-2 : tie.Need-byte-at-requires-2
-byte-at-requires-2 c κs = search needs
-
-add-result : tie.Need-add-result
-add-result c = search needs
-
-returns : tie.Need-returns
-returns c = search needs
-
 returns-2 : tie.Need-returns-2
 returns-2 c =
     let s = now (c .before .before .args .s) in
@@ -35,10 +17,5 @@ pub u16-at-spec : {M : Type 1} → statement M
 u16-at-spec =
     tie.close
     (tie.spec
-    byte-at-requires
-    mul-result
-    add-byte-at
-    byte-at-requires-2
-    add-result
-    returns
+    (λ c κs. search needs) (λ c. search needs) (λ c. search needs) (λ c κs. search needs) (λ c. search needs) (λ c. search needs)
     returns-2)

@@ -4,12 +4,6 @@ use Rattle.model.specs.Outcomes.{_then_}
 use Rattle.primitives.proofs.outcomes.and_then.Tie as tie
 use Rattle.primitives.proofs.outcomes.and_then.Statement.{statement}
 
-enum-told : tie.Need-enum-told
-enum-told c = search needs
-
-enum-known-check : tie.Need-enum-known-check
-enum-known-check c = search needs
-
 returns : tie.Need-returns
 unfolding _then_
 returns c = rw (c .enum-told .given .1)
@@ -19,4 +13,4 @@ unfolding _then_
 returns-2 c = rw (c .before .check .given .1)
 
 pub and-then-spec : {M : Type 1} → statement M
-and-then-spec = tie.close (tie.spec enum-told enum-known-check returns returns-2)
+and-then-spec = tie.close (tie.spec (λ c. search needs) (λ c. search needs) returns returns-2)

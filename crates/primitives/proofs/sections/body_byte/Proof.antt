@@ -29,31 +29,10 @@ ends s {frame} {n} few e bytes =
       short = omega (arith, bytes (boundary s n), bytes (boundary s n + 1));
     }
 
-add-read-frame : tie.Need-add-read-frame
-add-read-frame c = search needs
-
-read-frame-requires : tie.Need-read-frame-requires
-read-frame-requires c κs = search needs
-
-mul-start : tie.Need-mul-start
-mul-start c = search needs
-
-array-read-start : tie.Need-array-read-start
-array-read-start c = search needs
-
 add-start : tie.Need-add-start
 add-start c =
     let known = ends (now (c .before .before .before .args .s)) (c .before .before .before .pre) (c .before .read-frame .ensures) (λ i. omega (arith, c .before .before .shared-slice-known .given i)) in
     omega (arith, known .start, known .near)
-
-add-if1 : tie.Need-add-if1
-add-if1 c = search needs
-
-mul-if1 : tie.Need-mul-if1
-mul-if1 c = search needs
-
-array-read-if1 : tie.Need-array-read-if1
-array-read-if1 c = search needs
 
 sub-if1 : tie.Need-sub-if1
 sub-if1 c =
@@ -64,9 +43,6 @@ add-byte-at : tie.Need-add-byte-at
 add-byte-at c =
     let known = ends (now (c .before .before .before .before .args .s)) (c .before .before .before .before .pre) (c .before .before .read-frame .ensures) (λ i. omega (arith, c .before .before .before .shared-slice-known .given i)) in
     omega (arith, known .start, known .end, known .near, known .short, c .if1 .taken)
-
-byte-at-requires : tie.Need-byte-at-requires
-byte-at-requires c κs = search needs
 
 returns : tie.Need-returns
 returns c =
@@ -86,16 +62,11 @@ pub body-byte-spec : {M : Type 1} → statement M
 body-byte-spec =
     tie.close
     (tie.spec
-    add-read-frame
-    read-frame-requires
-    mul-start
-    array-read-start
+    (λ c. search needs) (λ c κs. search needs) (λ c. search needs) (λ c. search needs)
     add-start
-    add-if1
-    mul-if1
-    array-read-if1
+    (λ c. search needs) (λ c. search needs) (λ c. search needs)
     sub-if1
     add-byte-at
-    byte-at-requires
+    (λ c κs. search needs)
     returns
     returns-2)

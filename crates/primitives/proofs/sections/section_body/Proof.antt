@@ -26,23 +26,8 @@ between {s} {frame} {n} known =
     let e = end-at known in
     (omega (arith, boundary-next s n), omega (arith, known .inside (suc n) (omega arith)))
 
-mul-start : tie.Need-mul-start
-mul-start c = search needs
-
-array-read-start : tie.Need-array-read-start
-array-read-start c = search needs
-
 add-start : tie.Need-add-start
 add-start c = omega (arith, between (c .before .pre))
-
-add-end : tie.Need-add-end
-add-end c = search needs
-
-mul-end : tie.Need-mul-end
-mul-end c = search needs
-
-array-read-end : tie.Need-array-read-end
-array-read-end c = search needs
 
 sub-result : tie.Need-sub-result
 sub-result c = omega (arith, between (c .before .pre))
@@ -60,12 +45,9 @@ pub section-body-spec : {M : Type 1} → statement M
 section-body-spec =
     tie.close
     (tie.spec
-    mul-start
-    array-read-start
+    (λ c. search needs) (λ c. search needs)
     add-start
-    add-end
-    mul-end
-    array-read-end
+    (λ c. search needs) (λ c. search needs) (λ c. search needs)
     sub-result
     part-result-start
     part-result-end

@@ -66,8 +66,7 @@ fill-all-spec =
     loop-holds
     (λ c. search needs)
     fill-node-requires
-    (λ c. search needs)
-    (λ c. search needs)
+    (λ c. search needs) (λ c. search needs)
     loop-again
     (λ c. search needs)
     returns)

@@ -11,7 +11,5 @@ pub member-spec : {M : Type 1} → statement M
 member-spec =
     tie.close
     (tie.spec
-    (λ c. search needs)
-    (λ c. search needs)
-    (λ c. search needs)
+    (λ c. search needs) (λ c. search needs) (λ c. search needs)
     returns)

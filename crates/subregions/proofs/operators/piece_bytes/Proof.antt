@@ -11,6 +11,4 @@ piece-bytes-spec =
     tie.close
     (tie.spec
     inside-bytes-requires
-    (λ c κs. search needs)
-    (λ c. search needs)
-    (λ c. search needs))
+    (λ c κs. search needs) (λ c. search needs) (λ c. search needs))

@@ -37,9 +37,6 @@ preimage-piece-spec =
     loop-holds
     (λ c. search needs)
     preimage-word-requires
-    (λ c. search needs)
-    (λ c. search needs)
-    (λ c. search needs)
-    (λ c. search needs)
+    (λ c. search needs) (λ c. search needs) (λ c. search needs) (λ c. search needs)
     loop-again
     returns)

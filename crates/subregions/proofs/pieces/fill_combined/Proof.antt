@@ -20,10 +20,7 @@ pub fill-combined-spec : {M : Type 1} → statement M
 fill-combined-spec =
     tie.close
     (tie.spec
-    (λ c κs. search needs)
-    (λ c κs. search needs)
-    (λ c κs. search needs)
-    (λ c. search needs)
+    (λ c κs. search needs) (λ c κs. search needs) (λ c κs. search needs) (λ c. search needs)
     (λ c. rw (c .before .before .before .before .match .keys1) (c .before .before .fill-union .ensures))
     (λ c. search needs)
     (λ c. rw (c .before .before .before .before .match .keys2) (c .before .before .fill-intersection .ensures))

@@ -60,19 +60,13 @@ fill-supplied-spec =
     (tie.spec
     Inv-loop
     μ-loop
-    (λ c κs. search needs)
-    (λ c. search needs)
+    (λ c κs. search needs) (λ c. search needs)
     loop-holds
     (λ c. search needs)
     mul-supplied-piece
     add-supplied-piece
     supplied-piece-requires
-    (λ c. search needs)
-    (λ c. search needs)
-    (λ c. search needs)
-    (λ c κs. search needs)
-    (λ c. search needs)
-    (λ c. search needs)
+    (λ c. search needs) (λ c. search needs) (λ c. search needs) (λ c κs. search needs) (λ c. search needs) (λ c. search needs)
     loop-again
     (λ c. search needs)
     returns)
