@@ -2,10 +2,10 @@
 use Prim.Native.Nat.{ℕ, zero, suc, _+_, _-_, _*_, _/_, _%_, _^_, _<_, min, max}
 use mathlib.Core.Path.{_≡_, refl, sym, ap, _∙_}
 use mathlib.Core.Bool.{Bool, true, false}
-use native.Mathlib.Nat.{pow-suc, mod-lt, mod-eq-of-lt, one-mul}
+use native.Mathlib.Nat.{pow-suc, mod-lt, one-mul}
 use native.Mathlib.Omega.{arith}
 use lib.Arith.{digits-mod}
-use lib.Bits.{bitAnd, bitOr, and-step, or-step, and-shr, or-shr, and-mask, or-shifted, shifted-half, shifted-even}
+use lib.Bits.{bitAnd, bitOr, and-step, or-step, and-shr, or-shr, and-mask, shifted-half, shifted-even}
 use lib.Pow.{shr-shr, shl-shr, pow-pos, shl-exact, field, mod-mod-pow, low, high}
 use Rattle.model.specs.Tests.{Is, _and_, _or_, non, _==_, _<?_}
 use Rattle.model.specs.Words.{bit, digit}
@@ -181,10 +181,6 @@ bit-ones (suc m) (suc b) =
 -- what `1 << m` gives
 pub one-shifted : (m : ℕ) → m < 64 → (1 * 2 ^ m) % 2 ^ 64 ≡ 2 ^ m
 one-shifted m h = shl-exact 1 m 64 (omega arith) (omega arith) ∙ one-mul (2 ^ m)
-
--- `(x << k) | y` in n bits: a number shifted up, or one below it, is their sum
-pub shifted-or : (n k x y : ℕ) → x * 2 ^ k < 2 ^ n → y < 2 ^ k → bitOr ((x * 2 ^ k) % 2 ^ n) y ≡ x * 2 ^ k + y
-shifted-or n k x y room small = ap (λ (z : ℕ). bitOr z y) (mod-eq-of-lt room) ∙ or-shifted x k y small
 
 -- a word's bit taken out by a shift and a mask of one bit
 pub bit-taken : (w e : ℕ) → bitAnd (w / 2 ^ e) 1 ≡ digit (bit w e)

@@ -11,11 +11,12 @@ use lib.Arith.{digits-lt}
 use lib.Bits.{bitAnd, bitOr, and-lt, or-lt}
 use Rattle.model.specs.Tests.{Is, _and_, _or_, non, every, pick, _==_, _<?_}
 use Rattle.model.specs.Bytes.{Bytes, byte}
-use Rattle.model.specs.Words.{bit, digit, number}
+use Rattle.model.specs.Words.{bit, digit, fromBits}
 use Rattle.model.proofs.Tests.{both, either, same, less, fails, every-at, pick-true, pick-false}
 use Rattle.model.proofs.Words.{is-number, bit-number, number-same}
 use Rattle.bitsets.specs.Elements.{twoBytes, bytesBits, exchanged, exchangedBits, LowerPlaces, reversedBits}
-use Rattle.bitsets.proofs.Bits.{kept, false-or, and-false, and-true, or-false, bit-and, bit-or, bit-down, bit-up, bit-up-low, bit-low, bit-lower, bit-upper, shifted-or}
+use Rattle.bitsets.proofs.Bits.{kept, false-or, and-false, and-true, or-false, bit-and, bit-or, bit-down, bit-up, bit-up-low, bit-low, bit-lower, bit-upper}
+use Rattle.primitives.proofs.Shifts.{shifted-or}
 
 -- n bytes as a number, the first lowest
 unfoldable pub joined : ℕ → (ℕ → ℕ) → ℕ
@@ -71,14 +72,14 @@ joined-bit (suc n) bytes h b l = go (decLt b 8) (joined-bit n (λ i. bytes (suc 
         ∙ bit-upper (joined n (λ i. bytes (suc i))) 8 (bytes 0) (b - 8) (h 0) ∙ rest (omega (arith, l))
         ∙ ap₂ (λ (i e : ℕ). bit (bytes i) e) q r
 
-pub joined-word : (s : Bytes) (at : ℕ) → ((i : ℕ) → byte s i < 256) → joined 8 (λ i. byte s (at + i)) ≡ number 64 (bytesBits s at)
+pub joined-word : (s : Bytes) (at : ℕ) → ((i : ℕ) → byte s i < 256) → joined 8 (λ i. byte s (at + i)) ≡ fromBits 64 (bytesBits s at)
 unfolding bytesBits
 joined-word s at small =
     is-number 64 _ (bytesBits s at) (joined-less 8 _ (λ i. small (at + i))) (λ b l. joined-bit 8 _ (λ i. small (at + i)) b l)
 
 -- eight bytes by two, as a sum
 eight-sum : (s : Bytes) (at : ℕ) → ((i : ℕ) → byte s i < 256)
-    → (twoBytes s (at + 6) * 65536 + twoBytes s (at + 4)) * 4294967296 + (twoBytes s (at + 2) * 65536 + twoBytes s at) ≡ number 64 (bytesBits s at)
+    → (twoBytes s (at + 6) * 65536 + twoBytes s (at + 4)) * 4294967296 + (twoBytes s (at + 2) * 65536 + twoBytes s at) ≡ fromBits 64 (bytesBits s at)
 unfolding joined
 eight-sum s at small =
     let zeroth : at ≡ at + 0 = omega arith in
@@ -91,7 +92,7 @@ eight-sum s at small =
 pub eight-word : (s : Bytes) (at a b c d : ℕ) → ((i : ℕ) → byte s i < 256)
     → (a ≡ twoBytes s (at + 6)) × (a < 65536) → (b ≡ twoBytes s (at + 4)) × (b < 65536)
     → (c ≡ twoBytes s (at + 2)) × (c < 65536) → (d ≡ twoBytes s at) × (d < 65536)
-    → bitOr ((bitOr ((a * 2 ^ 16) % 2 ^ 64) b * 2 ^ 32) % 2 ^ 64) (bitOr ((c * 2 ^ 16) % 2 ^ 64) d) ≡ number 64 (bytesBits s at)
+    → bitOr ((bitOr ((a * 2 ^ 16) % 2 ^ 64) b * 2 ^ 32) % 2 ^ 64) (bitOr ((c * 2 ^ 16) % 2 ^ 64) d) ≡ fromBits 64 (bytesBits s at)
 eight-word s at a b c d small p q r t =
     let high = shifted-or 64 16 a b (omega (arith, p .1)) (q .1) in
     let low = shifted-or 64 16 c d (omega (arith, r .1)) (t .1) in
@@ -101,7 +102,7 @@ eight-word s at a b c d small p q r t =
 
 -- and the last one
 pub joined-last : (s : Bytes) (at i r : ℕ) → ((i : ℕ) → byte s i < 256) → i ≤ 0 → r ≡ joined (8 - i) (λ n. byte s (at + (i + n)))
-    → r ≡ number 64 (bytesBits s at)
+    → r ≡ fromBits 64 (bytesBits s at)
 joined-last s at i r small h q =
     let all : 8 - i ≡ 8 = omega arith in
     q ∙ ap (λ (m : ℕ). joined m (λ n. byte s (at + (i + n)))) all
@@ -109,7 +110,7 @@ joined-last s at i r small h q =
 
 -- bits exchanged by a shift up and a shift down
 pub exchanged-word : (x mask by : ℕ) → x < 2 ^ 64 → mask < 2 ^ 64 → LowerPlaces mask by
-    → bitOr (bitAnd (x / 2 ^ by) mask) ((bitAnd x mask * 2 ^ by) % 2 ^ 64) ≡ number 64 (exchangedBits mask by x)
+    → bitOr (bitAnd (x / 2 ^ by) mask) ((bitAnd x mask * 2 ^ by) % 2 ^ 64) ≡ fromBits 64 (exchangedBits mask by x)
 unfolding exchangedBits exchanged
 exchanged-word x mask by hx hm places =
     is-number 64 _ (exchangedBits mask by x) (or-lt 64 (bitAnd (x / 2 ^ by) mask) ((bitAnd x mask * 2 ^ by) % 2 ^ 64)
@@ -197,8 +198,8 @@ reversals : Is (every 64 reversal)
 unfolding every _and_ _==_ _<?_ pick bit exchanged from-fours from-twos reversal
 reversals = refl
 
-pub reversed-word : (x y z r : ℕ) → y ≡ number 64 (exchangedBits ONES 1 x) → z ≡ number 64 (exchangedBits TWOS 2 y)
-    → r ≡ number 64 (exchangedBits FOURS 4 z) → r ≡ number 64 (reversedBits x)
+pub reversed-word : (x y z r : ℕ) → y ≡ fromBits 64 (exchangedBits ONES 1 x) → z ≡ fromBits 64 (exchangedBits TWOS 2 y)
+    → r ≡ fromBits 64 (exchangedBits FOURS 4 z) → r ≡ fromBits 64 (reversedBits x)
 unfolding exchangedBits reversedBits reversal from-fours from-twos
 reversed-word x y z r p q t =
     t ∙ number-same 64 (exchangedBits FOURS 4 z) (reversedBits x) (λ b l.

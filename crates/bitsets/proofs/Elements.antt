@@ -11,7 +11,7 @@ use lib.ListN.{length, getD, set}
 use lib.Seq.{getD-set-same, getD-set-other}
 use native.Mathlib.Nat.{zero-add}
 use Rattle.model.specs.Tests.{_and_, _or_, non, _==_}
-use Rattle.model.specs.Words.{bit, digit, holds, number, word}
+use Rattle.model.specs.Words.{bit, digit, holds, fromBits, word}
 use Rattle.model.specs.Nodes.{UNION, INTERSECTION}
 use Rattle.model.proofs.Tests.{both, pair, lacks, refuted, same, same!, less, less!, most, most!, pick-true, pick-false}
 use Rattle.model.proofs.Words.{bit-zero, is-number, is-word, word-less, bit-word}
@@ -58,17 +58,17 @@ between-none low high e h = refute (λ t. h (most (both t .0)) (less (both t .1)
 
 -- one word of a union, an intersection, a difference
 module _ (kind x y : ℕ) (hx : x < 2 ^ 64) (hy : y < 2 ^ 64) where
-  pub union-word : kind ≡ UNION → (bitOr x y) ≡ number 64 (combinedBits kind x y)
+  pub union-word : kind ≡ UNION → (bitOr x y) ≡ fromBits 64 (combinedBits kind x y)
   unfolding combinedBits combination
   union-word h = is-number 64 _ _ (or-lt 64 x y hx hy) (λ b l. bit-or x y b ∙ sym (pick-true _ _ _ (same! h)))
 
-  pub intersection-word : (kind ≡ UNION → ⊥) → kind ≡ INTERSECTION → (bitAnd x y) ≡ number 64 (combinedBits kind x y)
+  pub intersection-word : (kind ≡ UNION → ⊥) → kind ≡ INTERSECTION → (bitAnd x y) ≡ fromBits 64 (combinedBits kind x y)
   unfolding combinedBits combination
   intersection-word n h =
       is-number 64 _ _ (and-lt 64 x y hx hy)
       (λ b l. bit-and x y b ∙ sym (pick-false _ _ _ (refute (λ t. n (same t))) ∙ pick-true _ _ _ (same! h)))
 
-  pub difference-word : (kind ≡ UNION → ⊥) → (kind ≡ INTERSECTION → ⊥) → (bitAnd x ((2 ^ 64 - 1) - y)) ≡ number 64 (combinedBits kind x y)
+  pub difference-word : (kind ≡ UNION → ⊥) → (kind ≡ INTERSECTION → ⊥) → (bitAnd x ((2 ^ 64 - 1) - y)) ≡ fromBits 64 (combinedBits kind x y)
   unfolding combinedBits combination
   difference-word n m =
       is-number 64 _ _ (and-lt 64 x ((2 ^ 64 - 1) - y) hx (omega arith))

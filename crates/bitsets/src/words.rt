@@ -5,7 +5,7 @@ ghost use Prim.Native.Nat.{_+_, _^_, _≤_, _<_};
 ghost use lib.Count.{trailingZeros};
 ghost use lib.ListN.{length};
 ghost use Rattle.model.specs.Bytes.{u16};
-ghost use Rattle.model.specs.Words.{number, word};
+ghost use Rattle.model.specs.Words.{fromBits, word};
 ghost use Rattle.bitsets.specs.Elements.{upTo, between, combinedBits, twoBytes, bytesBits, exchangedBits, LowerPlaces, reversedBits, PieceOf};
 
 // Word w of the elements below a number.
@@ -33,7 +33,7 @@ pub fn word_between(low: usize, high: usize, w: usize) -> u64
 
 // One word of a union (kind 2), an intersection (3) or a difference (4).
 pub fn combine(kind: usize, x: u64, y: u64) -> u64
-    ensures { λ r. ⌜ r ≡ number 64 (combinedBits kind x y) ⌝ }
+    ensures { λ r. ⌜ r ≡ fromBits 64 (combinedBits kind x y) ⌝ }
 {
     if kind == 2 {
         x | y
@@ -86,7 +86,7 @@ fn two_bytes(s: &[u8], at: usize) -> u64
 // The eight bytes at a place as a word, the first lowest; bytes past the end are 0.
 fn last_bytes(s: &[u8], at: usize) -> u64
     requires { ⌜ at < 2 ^ 32 ⌝ }
-    ensures { λ r. ⌜ r ≡ number 64 (bytesBits (now (s .entry)) at) ⌝ }
+    ensures { λ r. ⌜ r ≡ fromBits 64 (bytesBits (now (s .entry)) at) ⌝ }
 {
     let mut result = 0;
     let mut i = 8;
@@ -100,7 +100,7 @@ fn last_bytes(s: &[u8], at: usize) -> u64
 // The eight bytes at a place as a word, the first lowest, by one read.
 pub fn inside_bytes(s: &[u8], at: usize) -> u64
     requires { ⌜ at + 8 ≤ length (now s) ⌝ }
-    ensures { λ r. ⌜ r ≡ number 64 (bytesBits (now (s .entry)) at) ⌝ }
+    ensures { λ r. ⌜ r ≡ fromBits 64 (bytesBits (now (s .entry)) at) ⌝ }
 {
     let high = (two_bytes(s, at + 6) << 16) | two_bytes(s, at + 4);
     let low = (two_bytes(s, at + 2) << 16) | two_bytes(s, at);
@@ -110,7 +110,7 @@ pub fn inside_bytes(s: &[u8], at: usize) -> u64
 // The same; bytes past the end are 0.
 pub fn eight_bytes(s: &[u8], at: usize) -> u64
     requires { ⌜ at < 2 ^ 32 ⌝ }
-    ensures { λ r. ⌜ r ≡ number 64 (bytesBits (now (s .entry)) at) ⌝ }
+    ensures { λ r. ⌜ r ≡ fromBits 64 (bytesBits (now (s .entry)) at) ⌝ }
 {
     if at + 8 > s.len() {
         last_bytes(s, at)
@@ -122,14 +122,14 @@ pub fn eight_bytes(s: &[u8], at: usize) -> u64
 // The bits at the mask's places exchanged with those so many places higher.
 fn exchange(x: u64, mask: u64, by: u64) -> u64
     requires { ⌜ LowerPlaces mask by ⌝ }
-    ensures { λ r. ⌜ r ≡ number 64 (exchangedBits mask by x) ⌝ }
+    ensures { λ r. ⌜ r ≡ fromBits 64 (exchangedBits mask by x) ⌝ }
 {
     ((x >> by) & mask) | ((x & mask) << by)
 }
 
 // The bits of each byte in reverse order.
 pub fn reverse_bytes(x: u64) -> u64
-    ensures { λ r. ⌜ r ≡ number 64 (reversedBits x) ⌝ }
+    ensures { λ r. ⌜ r ≡ fromBits 64 (reversedBits x) ⌝ }
 {
     let y = exchange(x, 0x5555_5555_5555_5555, 1);
     let z = exchange(y, 0x3333_3333_3333_3333, 2);

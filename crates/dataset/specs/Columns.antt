@@ -5,7 +5,7 @@ use lib.Bits.{bitAnd, bitOr}
 use lib.ListN.{length}
 use Rattle.model.specs.Tests.{_and_, _or_, non, every, _==_}
 use Rattle.model.specs.Bytes.{Bytes}
-use Rattle.model.specs.Words.{number, word}
+use Rattle.model.specs.Words.{fromBits, word}
 use Rattle.bitsets.specs.Elements.{upTo, between, bytesBits, reversedBits}
 use Rattle.dataset.specs.declared.supplied.Column.{Column}
 
@@ -21,12 +21,12 @@ repeated words (suc n) = bitOr (repeated words n) (bitAnd (united words n) (word
 
 -- the bytes of piece i in column c, of pieces of so many bytes
 abbrev pub pieceWord : Bytes → ℕ → ℕ → ℕ → ℕ → ℕ
-pieceWord members start width c i = number 64 (bytesBits members (start + i * width + 8 * c))
+pieceWord members start width c i = fromBits 64 (bytesBits members (start + i * width + 8 * c))
 
 -- the elements in some of the first n pieces, and those in two; each byte has its highest bit first
 abbrev pub columnOf : (ℕ → ℕ) → ℕ → Column
 columnOf words n =
-    record { seen = number 64 (reversedBits (united words n)); repeated = number 64 (reversedBits (repeated words n)) }
+    record { seen = fromBits 64 (reversedBits (united words n)); repeated = fromBits 64 (reversedBits (repeated words n)) }
 
 -- pieces of a region of so many elements lie in few members
 pub record PiecesInside (members : Bytes) (start size pieces : ℕ) : Type 0 where

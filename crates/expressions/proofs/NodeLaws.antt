@@ -18,7 +18,7 @@ use Rattle.model.specs.declared.Outcome.the-variants.{Pass, Refuse}
 use Rattle.primitives.proofs.Filling.{next-filled}
 use Rattle.primitives.proofs.Scanning.{Scanning}
 use Rattle.primitives.proofs.Searches.{any-same}
-use Rattle.expressions.specs.Nodes.{nodeNumber, numberOf, isAmong, NodeRead, EarlierNodes, FormedNode, NodeRegionOf, NodeChecked}
+use Rattle.expressions.specs.Nodes.{nodeKey, keyOf, isAmong, NodeRead, EarlierNodes, FormedNode, NodeRegionOf, NodeChecked}
 use Rattle.expressions.specs.declared.nodes.Node.{Node}
 use Rattle.expressions.specs.declared.nodes.NodeRegion.{NodeRegion}
 use Rattle.expressions.specs.declared.nodes.CheckedNode.{CheckedNode}
@@ -116,12 +116,12 @@ module _ {P : Plan} {table : List ℕ} {node : Node} {j : ℕ} (known : FormedNo
       record { region = row .0 ∙ region-known; agrees = row .1 ∙ agrees-known; small = small }
 
 -- two nodes of bytes have one number where they are one node
-pub number-same : {k a b k' a' b' : ℕ} → k < 256 → a < 256 → b < 256 → k' < 256 → a' < 256 → b' < 256
-    → (nodeNumber k a b == nodeNumber k' a' b') ≡ (k == k' and a == a' and b == b')
-number-same {k} {a} {b} {k'} {a'} {b'} k< a< b< k'< a'< b'< =
+pub key-same : {k a b k' a' b' : ℕ} → k < 256 → a < 256 → b < 256 → k' < 256 → a' < 256 → b' < 256
+    → (nodeKey k a b == nodeKey k' a' b') ≡ (k == k' and a == a' and b == b')
+key-same {k} {a} {b} {k'} {a'} {b'} k< a< b< k'< a'< b'< =
     same-truth
     (λ h.
-    let e : nodeNumber k a b ≡ nodeNumber k' a' b' = same h in
+    let e : nodeKey k a b ≡ nodeKey k' a' b' = same h in
     pair (same! (omega arith)) (pair (same! (omega arith)) (same! (omega arith))))
     (λ h.
     let e-k = same (both h .0) in
@@ -129,35 +129,35 @@ number-same {k} {a} {b} {k'} {a'} {b'} k< a< b< k'< a'< b'< =
     let e-b = same (both (both h .1) .1) in
     same! (omega arith))
 
-module _ {P : Plan} {regionTable numberTable : List ℕ} {j : ℕ} (earlier : EarlierNodes P regionTable numberTable j)
+module _ {P : Plan} {regionTable keyTable : List ℕ} {j : ℕ} (earlier : EarlierNodes P regionTable keyTable j)
     (bytes : (i : ℕ) → getD (P .nodes) i 0 < 256) where
   -- an entry of the table, compared with the number of a node of bytes
-  pub numbered : (i : ℕ) → i < j → (k a b : ℕ) → k < 256 → a < 256 → b < 256
-      → (getD numberTable i 0 == nodeNumber k a b) ≡ (nodeKind P i == k and nodeA P i == a and nodeB P i == b)
-  numbered i lt k a b k< a< b< =
-      rw (earlier .numbers i, below-at 0 j (numberOf P) i lt) (number-same (bytes _) (bytes _) (bytes _) k< a< b<)
+  pub keyed : (i : ℕ) → i < j → (k a b : ℕ) → k < 256 → a < 256 → b < 256
+      → (getD keyTable i 0 == nodeKey k a b) ≡ (nodeKind P i == k and nodeA P i == a and nodeB P i == b)
+  keyed i lt k a b k< a< b< =
+      rw (earlier .keys i, below-at 0 j (keyOf P) i lt) (key-same (bytes _) (bytes _) (bytes _) k< a< b<)
 
-  pub duplicate-known : {number : ℕ} → nodeUnused P j ≡ 0 → number ≡ numberOf P j → isAmong numberTable number j ≡ duplicateNode P j
+  pub duplicate-known : {key : ℕ} → nodeUnused P j ≡ 0 → key ≡ keyOf P j → isAmong keyTable key j ≡ duplicateNode P j
   unfolding duplicateNode sameNode _and_ _==_
   duplicate-known blank e =
-      rw e (any-same j _ _ (λ k lt. rw (earlier .unused k lt, blank, and-true) (numbered k lt _ _ _ (bytes _) (bytes _) (bytes _))))
+      rw e (any-same j _ _ (λ k lt. rw (earlier .unused k lt, blank, and-true) (keyed k lt _ _ _ (bytes _) (bytes _) (bytes _))))
 
 -- after node j, which passes
-pub next-earlier : {P : Plan} {regionTable numberTable : List ℕ} {j : ℕ} {r : CheckedNode} → EarlierNodes P regionTable numberTable j
-    → j < length regionTable → j < length numberTable → NodeChecked P j r → r .outcome ≡ Pass
-    → EarlierNodes P (set regionTable j (r .region)) (set numberTable j (r .number)) (j + 1)
-next-earlier {P} {regionTable} {numberTable} {j} earlier in-regions in-numbers node pass =
+pub next-earlier : {P : Plan} {regionTable keyTable : List ℕ} {j : ℕ} {r : CheckedNode} → EarlierNodes P regionTable keyTable j
+    → j < length regionTable → j < length keyTable → NodeChecked P j r → r .outcome ≡ Pass
+    → EarlierNodes P (set regionTable j (r .region)) (set keyTable j (r .key)) (j + 1)
+next-earlier {P} {regionTable} {keyTable} {j} earlier in-regions in-numbers node pass =
     record {
       regions = next-filled _ regionTable j _ in-regions (earlier .regions) (node .region pass);
-      numbers = next-filled _ numberTable j _ in-numbers (earlier .numbers) (node .number);
+      keys = next-filled _ keyTable j _ in-numbers (earlier .keys) (node .key);
       unused = λ k lt. elim (latest k j (omega arith)) [ inl e ↦ rw e (unused-byte P j (sym (node .outcome) ∙ pass)) | inr l ↦ earlier .unused k l ];
     }
 
 -- the loop over the nodes, before node j
-pub record Reading (P : Plan) (count : ℕ) (regionTable numberTable : List ℕ) (j : ℕ) : Type 0 where
+pub record Reading (P : Plan) (count : ℕ) (regionTable keyTable : List ℕ) (j : ℕ) : Type 0 where
   pub counted : count ≡ nodeCount P
   pub few : count ≤ 48
   pub wide : length regionTable ≡ 48
-  pub room : length numberTable ≡ 48
-  pub earlier : EarlierNodes P regionTable numberTable j
+  pub room : length keyTable ≡ 48
+  pub earlier : EarlierNodes P regionTable keyTable j
   pub scanning : Scanning (nodeCheck P) (nodeCount P) j

@@ -3,7 +3,7 @@ use Prim.Native.Nat.{ℕ, _+_, _*_}
 use mathlib.Core.Path.{_≡_}
 use lib.ListN.{getD}
 use Rattle.model.specs.Bytes.{Bytes}
-use Rattle.expressions.specs.Nodes.{nodeNumber, NodeRead}
+use Rattle.expressions.specs.Nodes.{nodeKey, NodeRead}
 use Rattle.expressions.specs.Steps.{StepRead}
 use Rattle.expressions.specs.declared.nodes.Node.{Node}
 use Rattle.expressions.specs.declared.steps.Step.{Step}
@@ -20,8 +20,8 @@ nodeOf nodes j =
 pub node-is : {nodes : Bytes} {j : ℕ} {r : Node} → NodeRead nodes j r → r ≡ nodeOf nodes j
 node-is read = rw (← read .kind, ← read .a, ← read .b, ← read .unused)
 
-pub number-is : {nodes : Bytes} {j number : ℕ} {r : Node} → NodeRead nodes j r → number ≡ nodeNumber (r .kind) (r .a) (r .b)
-    → number ≡ nodeNumber (getD nodes (j * 4) 0) (getD nodes (j * 4 + 1) 0) (getD nodes (j * 4 + 2) 0)
+pub number-is : {nodes : Bytes} {j number : ℕ} {r : Node} → NodeRead nodes j r → number ≡ nodeKey (r .kind) (r .a) (r .b)
+    → number ≡ nodeKey (getD nodes (j * 4) 0) (getD nodes (j * 4 + 1) 0) (getD nodes (j * 4 + 2) 0)
 number-is read e = rw (e, read .kind, read .a, read .b)
 
 abbrev pub stepOf : Bytes → ℕ → Step

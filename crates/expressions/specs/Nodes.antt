@@ -18,22 +18,22 @@ use Rattle.expressions.specs.declared.nodes.CheckedNode.{CheckedNode}
 use Rattle.expressions.specs.declared.nodes.CheckedNodes.{CheckedNodes}
 
 -- kind, a and b as one number
-abbrev pub nodeNumber : ℕ → ℕ → ℕ → ℕ
-nodeNumber kind a b = kind + a * 256 + b * 65536
+abbrev pub nodeKey : ℕ → ℕ → ℕ → ℕ
+nodeKey kind a b = kind + a * 256 + b * 65536
 
 -- the number of node j
-abbrev pub numberOf : Plan → ℕ → ℕ
-numberOf P j = nodeNumber (nodeKind P j) (nodeA P j) (nodeB P j)
+abbrev pub keyOf : Plan → ℕ → ℕ
+keyOf P j = nodeKey (nodeKind P j) (nodeA P j) (nodeB P j)
 
 -- the table tells kind, a and b of each node by one number
-abbrev pub NodeNumbers : Plan → List ℕ → Type 0
-NodeNumbers P numbers =
+abbrev pub NodeKeys : Plan → List ℕ → Type 0
+NodeKeys P keys =
     (j : ℕ) → j < nodeCount P → (k a b : ℕ) → k < 256 → a < 256 → b < 256
-    → (getD numbers j 0 == nodeNumber k a b) ≡ (nodeKind P j == k and nodeA P j == a and nodeB P j == b)
+    → (getD keys j 0 == nodeKey k a b) ≡ (nodeKind P j == k and nodeA P j == a and nodeB P j == b)
 
 -- one of the first n numbers is this one
 abbrev pub isAmong : List ℕ → ℕ → ℕ → Bool
-isAmong numbers number n = any n (λ k. getD numbers k 0 == number)
+isAmong keys key n = any n (λ k. getD keys k 0 == key)
 
 -- what was read is node j: "kind, a, b, 0", bytes
 pub record NodeRead (nodes : Bytes) (j : ℕ) (r : Node) : Type 0 where
@@ -46,16 +46,16 @@ pub record NodeRead (nodes : Bytes) (j : ℕ) (r : Node) : Type 0 where
   pub small-b : r .b < 256
 
 -- the tables have the regions and the numbers of the nodes before j, and 0 elsewhere; the unused bytes of these nodes are 0
-pub record EarlierNodes (P : Plan) (regionTable numberTable : List ℕ) (j : ℕ) : Type 0 where
+pub record EarlierNodes (P : Plan) (regionTable keyTable : List ℕ) (j : ℕ) : Type 0 where
   pub regions : (k : ℕ) → getD regionTable k 0 ≡ below 0 j (nodeRegion P) k
-  pub numbers : (k : ℕ) → getD numberTable k 0 ≡ below 0 j (numberOf P) k
+  pub keys : (k : ℕ) → getD keyTable k 0 ≡ below 0 j (keyOf P) k
   pub unused : (k : ℕ) → k < j → nodeUnused P k ≡ 0
 
 -- node j is next
-pub record NodeTurn (P : Plan) (regionTable numberTable : List ℕ) (j : ℕ) : Type 0 where
+pub record NodeTurn (P : Plan) (regionTable keyTable : List ℕ) (j : ℕ) : Type 0 where
   pub inside : j * 4 + 3 < length (P .nodes)
-  pub room : j ≤ length numberTable
-  pub earlier : EarlierNodes P regionTable numberTable j
+  pub room : j ≤ length keyTable
+  pub earlier : EarlierNodes P regionTable keyTable j
 
 -- whether node j is formed, of any plan with these sections that has this record there
 abbrev pub FormedRead : Bytes → Bytes → Bytes → Node → ℕ → Bool → Type 0
@@ -85,11 +85,11 @@ pub record NodeChecked (P : Plan) (j : ℕ) (r : CheckedNode) : Type 0 where
   pub outcome : r .outcome ≡ nodeCheck P j
   pub region : r .outcome ≡ Pass → r .region ≡ nodeRegion P j
   pub small : r .region < 256
-  pub number : r .number ≡ numberOf P j
+  pub key : r .key ≡ keyOf P j
 
 -- the outcome of section 5 and, after a pass, the region and the number of each node
 pub record NodesChecked (P : Plan) (r : CheckedNodes) : Type 0 where
   pub outcome : r .outcome ≡ scan (nodeCheck P) 0 (nodeCount P)
   pub regions : r .outcome ≡ Pass → (j : ℕ) → j < nodeCount P → getD (r .regions) j 0 ≡ nodeRegion P j
-  pub room : length (r .numbers) ≡ 48
-  pub numbers : r .outcome ≡ Pass → NodeNumbers P (r .numbers)
+  pub room : length (r .keys) ≡ 48
+  pub keys : r .outcome ≡ Pass → NodeKeys P (r .keys)

@@ -20,24 +20,24 @@ use Rattle.expressions.specs.declared.steps.Step.{Step}
 use Rattle.expressions.specs.declared.steps.Premises.{Premises}
 
 -- SUB(x, y), DISJ(x) and COMP(x) as numbers
-abbrev pub subsetNumber : ℕ → ℕ → ℕ
-subsetNumber x y = x * 256 + y
+abbrev pub subsetKey : ℕ → ℕ → ℕ
+subsetKey x y = x * 256 + y
 
-abbrev pub disjointNumber : ℕ → ℕ
-disjointNumber x = 65536 + x * 256
+abbrev pub disjointKey : ℕ → ℕ
+disjointKey x = 65536 + x * 256
 
-abbrev pub completeNumber : ℕ → ℕ
-completeNumber x = 131072 + x * 256
+abbrev pub completeKey : ℕ → ℕ
+completeKey x = 131072 + x * 256
 
 -- what a lemma of this form concludes of x and y
-unfoldable pub conclusionNumber : Conclusion → ℕ → ℕ → ℕ
-conclusionNumber Subset x y = subsetNumber x y
-conclusionNumber Disjoint x y = disjointNumber x
-conclusionNumber Complete x y = completeNumber x
+unfoldable pub conclusionKey : Conclusion → ℕ → ℕ → ℕ
+conclusionKey Subset x y = subsetKey x y
+conclusionKey Disjoint x y = disjointKey x
+conclusionKey Complete x y = completeKey x
 
 -- what step t concludes
-abbrev pub stepNumber : Bytes → ℕ → ℕ
-stepNumber steps t = conclusionNumber (lemmaRow (getD steps (t * 5) 0) .conclusion) (getD steps (t * 5 + 1) 0) (getD steps (t * 5 + 2) 0)
+abbrev pub stepKey : Bytes → ℕ → ℕ
+stepKey steps t = conclusionKey (lemmaRow (getD steps (t * 5) 0) .conclusion) (getD steps (t * 5 + 1) 0) (getD steps (t * 5 + 2) 0)
 
 -- x, y and p are bytes
 pub record StepBytes (step : Step) : Type 0 where
@@ -71,8 +71,8 @@ pub record PremisesRead (table : List ℕ) (step : Step) (r : Premises) : Type 0
 pub record KnownPremises (steps : Bytes) (step : Step) (premises : Premises) : Type 0 where
   pub bytes : StepBytes step
   pub section : (i : ℕ) → getD steps i 0 < 256
-  pub p : premises .p ≡ stepNumber steps (step .p)
-  pub q : premises .q ≡ stepNumber steps (step .q)
+  pub p : premises .p ≡ stepKey steps (step .p)
+  pub q : premises .q ≡ stepKey steps (step .q)
 
 -- and its lemma is one of the 20
 pub record KnownStep (steps : Bytes) (step : Step) (premises : Premises) : Type 0 where
@@ -85,7 +85,7 @@ pub record StepTurn (steps : Bytes) (table : List ℕ) (step : Step) (row : Lemm
   pub read : StepRead steps t step
   pub listed : row ≡ lemmaRow (step .lemma)
   pub inside : t < length table
-  pub known : (k : ℕ) → k ≤ t → getD table k 0 ≡ stepNumber steps k
+  pub known : (k : ℕ) → k ≤ t → getD table k 0 ≡ stepKey steps k
 
 -- section 7
 abbrev pub stepsCheck : Plan → Outcome
@@ -94,9 +94,9 @@ stepsCheck P = scan (stepCheck P) 0 (stepCount P)
 -- the table says of the first n steps what they conclude
 pub record Concluded (P : Plan) (n : ℕ) (table : List ℕ) : Type 0 where
   pub room : length table ≡ 128
-  pub subsets : (t : ℕ) → t < n → (x y : ℕ) → x < 256 → y < 256 → (getD table t 0 == subsetNumber x y) ≡ concludesSubset P t x y
-  pub disjoints : (t : ℕ) → t < n → (x : ℕ) → x < 256 → (getD table t 0 == disjointNumber x) ≡ concludesDisjoint P t x
-  pub completes : (t : ℕ) → t < n → (x : ℕ) → x < 256 → (getD table t 0 == completeNumber x) ≡ concludesComplete P t x
+  pub subsets : (t : ℕ) → t < n → (x y : ℕ) → x < 256 → y < 256 → (getD table t 0 == subsetKey x y) ≡ concludesSubset P t x y
+  pub disjoints : (t : ℕ) → t < n → (x : ℕ) → x < 256 → (getD table t 0 == disjointKey x) ≡ concludesDisjoint P t x
+  pub completes : (t : ℕ) → t < n → (x : ℕ) → x < 256 → (getD table t 0 == completeKey x) ≡ concludesComplete P t x
   pub small : (t : ℕ) → t < n → getD table t 0 < 196608
 
 -- the outcome of section 7 and, after a pass, what each step concludes

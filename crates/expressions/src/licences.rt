@@ -9,9 +9,9 @@ use crate::nodes::UNION;
 use crate::nodes::node_at;
 use crate::steps::Premises;
 use crate::steps::Step;
-use crate::steps::complete_number;
-use crate::steps::disjoint_number;
-use crate::steps::subset_number;
+use crate::steps::complete_key;
+use crate::steps::disjoint_key;
+use crate::steps::subset_key;
 use primitives::bytes::byte_at;
 ghost use mathlib.Core.Path.{_≡_};
 ghost use mathlib.Core.List.{[]};
@@ -42,12 +42,12 @@ fn operator_licensed(nodes: &[u8], steps: &[u8], step: Step, premises: Premises)
     let x = node_at(nodes, step.x);
     let y = node_at(nodes, step.y);
     let middle = byte_at(steps, step.p * 5 + 2);
-    let x_in_middle = premises.p == subset_number(step.x, middle);
-    let middle_in_y = premises.q == subset_number(middle, step.y);
-    let left_in_y = premises.p == subset_number(x.a, step.y);
-    let right_in_y = premises.q == subset_number(x.b, step.y);
-    let x_in_left = premises.p == subset_number(step.x, y.a);
-    let x_in_right = premises.q == subset_number(step.x, y.b);
+    let x_in_middle = premises.p == subset_key(step.x, middle);
+    let middle_in_y = premises.q == subset_key(middle, step.y);
+    let left_in_y = premises.p == subset_key(x.a, step.y);
+    let right_in_y = premises.q == subset_key(x.b, step.y);
+    let x_in_left = premises.p == subset_key(step.x, y.a);
+    let x_in_right = premises.q == subset_key(step.x, y.b);
     ((step.lemma == 6) & (x_in_middle & middle_in_y))
         | ((step.lemma == 7) & ((y.kind == UNION) & ((y.a == step.x) | (y.b == step.x))))
         | ((step.lemma == 8) & ((x.kind == UNION) & (left_in_y & right_in_y)))
@@ -65,8 +65,8 @@ fn map_licensed(nodes: &[u8], steps: &[u8], step: Step, premises: Premises) -> b
     let y = node_at(nodes, step.y);
     let middle = byte_at(steps, step.p * 5 + 2);
     let z = node_at(nodes, middle);
-    let operands = (x.b == y.b) & (premises.p == subset_number(x.a, y.a));
-    let operand_in_middle = premises.p == subset_number(x.a, middle);
+    let operands = (x.b == y.b) & (premises.p == subset_key(x.a, y.a));
+    let operand_in_middle = premises.p == subset_key(x.a, middle);
     let preimage_of_y = (z.kind == PREIMAGE) & ((z.a == step.y) & (z.b == x.b));
     ((step.lemma == 12) & ((x.kind == IMAGE) & ((y.kind == IMAGE) & operands)))
         | ((step.lemma == 13) & ((x.kind == PREIMAGE) & ((y.kind == PREIMAGE) & operands)))
@@ -79,10 +79,10 @@ fn disjoint_licensed(nodes: &[u8], step: Step, premises: Premises) -> bool
     ensures { λ r. ⌜ ((steps : Bytes) → KnownPremises steps step premises → r ≡ licensedBy (stepParts [] [] (now (nodes .entry)) steps) 15 4 step) ⌝ }
 {
     let x = node_at(nodes, step.x);
-    let y_disjoint = premises.p == disjoint_number(step.y);
-    let x_in_y = premises.q == subset_number(step.x, step.y);
-    let left_disjoint = premises.p == disjoint_number(x.a);
-    let right_disjoint = premises.p == disjoint_number(x.b);
+    let y_disjoint = premises.p == disjoint_key(step.y);
+    let x_in_y = premises.q == subset_key(step.x, step.y);
+    let left_disjoint = premises.p == disjoint_key(x.a);
+    let right_disjoint = premises.p == disjoint_key(x.b);
     ((step.lemma == 15) & (y_disjoint & x_in_y))
         | ((step.lemma == 16) & ((x.kind == INTERSECTION) & (left_disjoint | right_disjoint)))
         | ((step.lemma == 17) & ((x.kind == DIFFERENCE) & left_disjoint))
@@ -96,9 +96,9 @@ fn complete_licensed(maps: &[u8], nodes: &[u8], step: Step, premises: Premises) 
 {
     let x = node_at(nodes, step.x);
     let totality = byte_at(maps, x.b * 3 + 2);
-    let y_complete = premises.p == complete_number(step.y);
-    let y_in_x = premises.q == subset_number(step.y, step.x);
-    let operand_complete = premises.p == complete_number(x.a);
+    let y_complete = premises.p == complete_key(step.y);
+    let y_in_x = premises.q == subset_key(step.y, step.x);
+    let operand_complete = premises.p == complete_key(x.a);
     ((step.lemma == 19) & (y_complete & y_in_x))
         | ((step.lemma == 20) & ((x.kind == PREIMAGE) & ((totality == 1) & operand_complete)))
 }

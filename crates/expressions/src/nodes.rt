@@ -2,14 +2,14 @@
 use model::Outcome;
 use model::Refusal;
 use primitives::bytes::byte_at;
-use primitives::bytes::number_of;
+use primitives::bytes::usize_of;
 use primitives::outcomes::and_then;
 use primitives::outcomes::require;
 ghost use mathlib.Core.Path.{_≡_};
 ghost use Prim.Native.Nat.{_+_, _*_, _/_, _^_, _≤_, _<_};
 ghost use lib.ListN.{length};
 ghost use Rattle.expressions.specs.Parts.{nodeParts};
-ghost use Rattle.expressions.specs.Nodes.{nodeNumber, isAmong, NodeRead, NodeTurn, FormedRead, RegionRead, NodeChecked, NodesChecked};
+ghost use Rattle.expressions.specs.Nodes.{nodeKey, isAmong, NodeRead, NodeTurn, FormedRead, RegionRead, NodeChecked, NodesChecked};
 
 // The kinds of nodes.
 pub const SUPPLIED: usize = 0;
@@ -44,14 +44,14 @@ pub struct NodeRegion {
 pub struct CheckedNode {
     pub outcome: Outcome,
     pub region: usize,
-    pub number: u32,
+    pub key: u32,
 }
 
 // The outcome of section 5 and, after a pass, the region and the number of each node.
 pub struct CheckedNodes {
     pub outcome: Outcome,
     pub regions: [u8; 48],
-    pub numbers: [u32; 48],
+    pub keys: [u32; 48],
 }
 
 // The record of node j, of bytes 0 where there is none.
@@ -71,17 +71,17 @@ fn read_node(nodes: &[u8], j: usize) -> Node
     requires { ⌜ j * 4 + 3 < length (now nodes) ⌝ }
     ensures { λ r. ⌜ NodeRead (now (nodes .entry)) j r ⌝ }
 {
-    let kind = number_of(nodes[j * 4]);
-    let a = number_of(nodes[j * 4 + 1]);
-    let b = number_of(nodes[j * 4 + 2]);
-    let unused = number_of(nodes[j * 4 + 3]);
+    let kind = usize_of(nodes[j * 4]);
+    let a = usize_of(nodes[j * 4 + 1]);
+    let b = usize_of(nodes[j * 4 + 2]);
+    let unused = usize_of(nodes[j * 4 + 3]);
     Node { kind, a, b, unused }
 }
 
 // Kind and operands of a node as one number.
-pub fn node_number(kind: usize, a: usize, b: usize) -> u32
+pub fn node_key(kind: usize, a: usize, b: usize) -> u32
     requires { ⌜ (kind < 256) × ((a < 256) × (b < 256)) ⌝ }
-    ensures { λ r. ⌜ r ≡ nodeNumber kind a b ⌝ }
+    ensures { λ r. ⌜ r ≡ nodeKey kind a b ⌝ }
 {
     (kind + a * 256 + b * 65536) as u32
 }
@@ -135,14 +135,14 @@ fn region_of(maps: &[u8], supplied: &[u8], earlier: &[u8], node: Node) -> NodeRe
 }
 
 // Whether one of the first j numbers is this one. It runs to its end, so that several are compared at once.
-fn is_among(numbers: &[u32], number: u32, j: usize) -> bool
-    requires { ⌜ j ≤ length (now numbers) ⌝ }
-    ensures { λ r. ⌜ r ≡ isAmong (now (numbers .entry)) number j ⌝ }
+fn is_among(keys: &[u32], key: u32, j: usize) -> bool
+    requires { ⌜ j ≤ length (now keys) ⌝ }
+    ensures { λ r. ⌜ r ≡ isAmong (now (keys .entry)) key j ⌝ }
 {
     let mut found = false;
     let mut k = 0;
     while k < j {
-        found = found | (numbers[k] == number);
+        found = found | (keys[k] == key);
         k += 1;
     }
     found
@@ -155,31 +155,31 @@ fn check_node(
     supplied: &[u8],
     nodes: &[u8],
     earlier: &[u8],
-    numbers: &[u32],
+    keys: &[u32],
     j: usize,
 ) -> CheckedNode
-    requires { ⌜ NodeTurn (nodeParts (now regions) (now maps) (now supplied) (now nodes)) (now earlier) (now numbers) j ⌝ }
+    requires { ⌜ NodeTurn (nodeParts (now regions) (now maps) (now supplied) (now nodes)) (now earlier) (now keys) j ⌝ }
     ensures { λ r. ⌜ NodeChecked (nodeParts (now (regions .entry)) (now (maps .entry)) (now (supplied .entry)) (now (nodes .entry))) j r ⌝ }
 {
     let node = read_node(nodes, j);
-    let number = node_number(node.kind, node.a, node.b);
+    let key = node_key(node.kind, node.a, node.b);
     if is_formed(regions, maps, supplied, node, j) {
         let known = region_of(maps, supplied, earlier, node);
         let agrees = require(known.agrees, Refusal::RegionMismatch(5 * 256 + j));
-        let distinct = require(!is_among(numbers, number, j), Refusal::DuplicateNode(j));
+        let distinct = require(!is_among(keys, key, j), Refusal::DuplicateNode(j));
         let outcome = and_then(agrees, distinct);
         let region = known.region;
         CheckedNode {
             outcome,
             region,
-            number,
+            key,
         }
     } else {
         let outcome = Outcome::Refuse(Refusal::InvalidRecord(5 * 256 + j));
         CheckedNode {
             outcome,
             region: 0,
-            number,
+            key,
         }
     }
 }
@@ -191,21 +191,21 @@ pub fn check_nodes(regions: &[u8], maps: &[u8], supplied: &[u8], nodes: &[u8]) -
 {
     let count = nodes.len() / 4;
     let mut table = [0u8; 48];
-    let mut numbers = [0u32; 48];
+    let mut keys = [0u32; 48];
     let mut j = 0;
     while j < count {
-        let node = check_node(regions, maps, supplied, nodes, &table, &numbers, j);
+        let node = check_node(regions, maps, supplied, nodes, &table, &keys, j);
         let outcome = node.outcome;
         match outcome {
             Outcome::Pass => {
                 table[j] = node.region as u8;
-                numbers[j] = node.number;
+                keys[j] = node.key;
             }
             Outcome::Refuse(refusal) => {
                 return CheckedNodes {
                     outcome: Outcome::Refuse(refusal),
                     regions: table,
-                    numbers,
+                    keys,
                 }
             }
         }
@@ -214,6 +214,6 @@ pub fn check_nodes(regions: &[u8], maps: &[u8], supplied: &[u8], nodes: &[u8]) -
     CheckedNodes {
         outcome: Outcome::Pass,
         regions: table,
-        numbers,
+        keys,
     }
 }

@@ -5,14 +5,14 @@ use model::Conclusion;
 use model::Lemma;
 use model::Outcome;
 use model::Refusal;
-use primitives::bytes::number_of;
+use primitives::bytes::usize_of;
 use primitives::outcomes::require;
 ghost use mathlib.Core.Path.{_≡_};
 ghost use Prim.Native.Nat.{_+_, _*_, _/_, _≤_, _<_};
 ghost use lib.ListN.{length};
 ghost use Rattle.model.specs.Lemmas.{lemmaRow, inUse, stepCheck};
 ghost use Rattle.expressions.specs.Parts.{stepParts};
-ghost use Rattle.expressions.specs.Steps.{subsetNumber, disjointNumber, completeNumber, conclusionNumber, StepRead, FormedRead, PremisesRead, StepTurn, StepsRead};
+ghost use Rattle.expressions.specs.Steps.{subsetKey, disjointKey, completeKey, conclusionKey, StepRead, FormedRead, PremisesRead, StepTurn, StepsRead};
 
 // A record of section 7.
 pub struct Step {
@@ -34,47 +34,47 @@ fn step_at(steps: &[u8], t: usize) -> Step
     requires { ⌜ t * 5 + 4 < length (now steps) ⌝ }
     ensures { λ r. ⌜ StepRead (now (steps .entry)) t r ⌝ }
 {
-    let lemma = number_of(steps[t * 5]);
-    let x = number_of(steps[t * 5 + 1]);
-    let y = number_of(steps[t * 5 + 2]);
-    let p = number_of(steps[t * 5 + 3]);
-    let q = number_of(steps[t * 5 + 4]);
+    let lemma = usize_of(steps[t * 5]);
+    let x = usize_of(steps[t * 5 + 1]);
+    let y = usize_of(steps[t * 5 + 2]);
+    let p = usize_of(steps[t * 5 + 3]);
+    let q = usize_of(steps[t * 5 + 4]);
     Step { lemma, x, y, p, q }
 }
 
 // SUB(x, y) as a number.
-pub fn subset_number(x: usize, y: usize) -> u32
+pub fn subset_key(x: usize, y: usize) -> u32
     requires { ⌜ (x < 256) × (y < 256) ⌝ }
-    ensures { λ r. ⌜ r ≡ subsetNumber x y ⌝ }
+    ensures { λ r. ⌜ r ≡ subsetKey x y ⌝ }
 {
     (x * 256 + y) as u32
 }
 
 // DISJ(x) as a number.
-pub fn disjoint_number(x: usize) -> u32
+pub fn disjoint_key(x: usize) -> u32
     requires { ⌜ x < 256 ⌝ }
-    ensures { λ r. ⌜ r ≡ disjointNumber x ⌝ }
+    ensures { λ r. ⌜ r ≡ disjointKey x ⌝ }
 {
     (65536 + x * 256) as u32
 }
 
 // COMP(x) as a number.
-pub fn complete_number(x: usize) -> u32
+pub fn complete_key(x: usize) -> u32
     requires { ⌜ x < 256 ⌝ }
-    ensures { λ r. ⌜ r ≡ completeNumber x ⌝ }
+    ensures { λ r. ⌜ r ≡ completeKey x ⌝ }
 {
     (131072 + x * 256) as u32
 }
 
 // What a step of this form concludes of x and y, as a number.
-fn conclusion_number(conclusion: Conclusion, x: usize, y: usize) -> u32
+fn conclusion_key(conclusion: Conclusion, x: usize, y: usize) -> u32
     requires { ⌜ (x < 256) × (y < 256) ⌝ }
-    ensures { λ r. ⌜ r ≡ conclusionNumber conclusion x y ⌝ }
+    ensures { λ r. ⌜ r ≡ conclusionKey conclusion x y ⌝ }
 {
     match conclusion {
-        Conclusion::Subset => subset_number(x, y),
-        Conclusion::Disjoint => disjoint_number(x),
-        Conclusion::Complete => complete_number(x),
+        Conclusion::Subset => subset_key(x, y),
+        Conclusion::Disjoint => disjoint_key(x),
+        Conclusion::Complete => complete_key(x),
     }
 }
 
@@ -151,7 +151,7 @@ pub fn check_steps(
         let step = step_at(steps, t);
         let row = lemma_row(step.lemma);
         let conclusion = row.conclusion;
-        conclusions[t] = conclusion_number(conclusion, step.x, step.y);
+        conclusions[t] = conclusion_key(conclusion, step.x, step.y);
         match check_step(maps, supplied, nodes, steps, conclusions, step, row, t) {
             Outcome::Pass => {}
             Outcome::Refuse(refusal) => return Outcome::Refuse(refusal),

@@ -1,8 +1,10 @@
 // Section 2, maps: "source region, target region, 0 partial or 1 total".
 use model::Outcome;
 use model::Refusal;
-use primitives::bytes::byte_at;
 use primitives::outcomes::require;
+use primitives::records::map_source;
+use primitives::records::map_target;
+use primitives::records::map_totality;
 ghost use mathlib.Core.Path.{_≡_};
 ghost use Prim.Native.Nat.{_<_, _/_};
 ghost use lib.ListN.{length};
@@ -15,9 +17,9 @@ fn check_map(regions: &[u8], maps: &[u8], map: usize) -> Outcome
     requires { ⌜ map < length (now maps) / 3 ⌝ }
     ensures { λ r. ⌜ ((P : Plan) → MapDeclarations P (now (regions .entry)) (now (maps .entry)) → r ≡ mapCheck P map) ⌝ }
 {
-    let source = byte_at(maps, map * 3);
-    let target = byte_at(maps, map * 3 + 1);
-    let totality = byte_at(maps, map * 3 + 2);
+    let source = map_source(maps, map);
+    let target = map_target(maps, map);
+    let totality = map_totality(maps, map);
     let count = regions.len();
     require(
         (source < count) & ((target < count) & (totality <= 1)),

@@ -1,8 +1,9 @@
 // Section 3, supplied partitions: "region, flags: 1 disjoint, 2 complete, 3 both, 0 neither".
 use model::Outcome;
 use model::Refusal;
-use primitives::bytes::byte_at;
 use primitives::outcomes::require;
+use primitives::records::supplied_flags;
+use primitives::records::supplied_region;
 ghost use mathlib.Core.Path.{_≡_};
 ghost use Prim.Native.Nat.{_<_, _/_};
 ghost use lib.ListN.{length};
@@ -15,8 +16,8 @@ fn check_partition(regions: &[u8], supplied: &[u8], partition: usize) -> Outcome
     requires { ⌜ partition < length (now supplied) / 2 ⌝ }
     ensures { λ r. ⌜ ((P : Plan) → SuppliedDeclarations P (now (regions .entry)) (now (supplied .entry)) → r ≡ suppliedCheck P partition) ⌝ }
 {
-    let region = byte_at(supplied, partition * 2);
-    let flags = byte_at(supplied, partition * 2 + 1);
+    let region = supplied_region(supplied, partition);
+    let flags = supplied_flags(supplied, partition);
     require(
         (region < regions.len()) & (flags <= 3),
         Refusal::InvalidRecord(3 * 256 + partition),

@@ -1,5 +1,5 @@
 // Entries of tables by statement, of the statements before one.
-use primitives::bytes::number_of;
+use primitives::bytes::usize_of;
 ghost use mathlib.Core.Path.{_≡_};
 ghost use mathlib.Core.Bool.{false};
 ghost use Prim.Native.Nat.{_<_};
@@ -7,12 +7,12 @@ ghost use lib.ListN.{getD};
 ghost use Rattle.model.specs.Recursion.{below};
 
 // The number that a table has for i, if that is below s.
-pub fn earlier_number(table: &[u8; 64], s: usize, i: usize, otherwise: usize) -> usize
+pub fn earlier_byte(table: &[u8; 64], s: usize, i: usize, otherwise: usize) -> usize
     requires { ⌜ s < 64 ⌝ }
     ensures { λ r. ⌜ (r ≡ below otherwise s (λ d. getD (now (table .entry)) d 0) i) × ((otherwise < 256) → r < 256) ⌝ }
 {
     if i < s {
-        number_of(table[i])
+        usize_of(table[i])
     } else {
         otherwise
     }

@@ -3,12 +3,12 @@ use crate::kinds::defines_variable;
 use crate::kinds::kind_of;
 use crate::kinds::opens_loop;
 use crate::lookup::earlier_flag;
-use crate::lookup::earlier_number;
+use crate::lookup::earlier_byte;
 use model::Outcome;
 use model::Refusal;
 use model::StatementKind;
 use primitives::bytes::byte_at;
-use primitives::bytes::number_of;
+use primitives::bytes::usize_of;
 use primitives::outcomes::and_then;
 use primitives::outcomes::require;
 ghost use mathlib.Core.Path.{_≡_};
@@ -208,11 +208,11 @@ fn read_statement(
     let defined = definition_of(variables, operand_at(statements, s));
     operands[s] = defined;
     let operand = defined as usize;
-    let copied_region = earlier_number(variable_regions, s, operand, 0) as u8;
+    let copied_region = earlier_byte(variable_regions, s, operand, 0) as u8;
     variable_regions[s] = variable_region(maps, statements, s, copied_region);
     let copied_centered = earlier_flag(centered, s, operand);
     centered[s] = is_centered(statements, s, copied_centered);
-    let region = number_of(variable_regions[operand]);
+    let region = usize_of(variable_regions[operand]);
     check_statement(regions, maps, statements, s, variables.count, region)
 }
 

@@ -12,7 +12,7 @@ use lib.ListN.{length, getD, length-map, List·getD-eq-default}
 use lib.Seq.{ext-getD}
 use Rattle.model.specs.Tests.{Is}
 use Rattle.model.specs.Bytes.{Bytes, byte, u16, body}
-use Rattle.model.specs.Words.{bit, number}
+use Rattle.model.specs.Words.{bit, fromBits}
 use Rattle.model.specs.Layout.{Plan, regionCount, mapCount, suppliedCount, source, suppliedRegion}
 use Rattle.model.specs.AcceptedPlans.{Limits}
 use Rattle.model.specs.DataSets.{dataOf, pieces, size, entryStart, entry, pieceBytes, memberStart, suppliedBit, padBitsClear, wellFramed}
@@ -192,7 +192,7 @@ module _
         let this : bit (byte (body d 3) at) b ≡ suppliedBit P (dataOf d) k i (q * 8 + (7 - b)) =
         same-bit (body d 3) at _ b _ (omega arith) (omega arith) in
         this ∙ bit-found k i (q * 8 + (7 - b)) lk li (omega arith))
-        ∙ sym (getD-tabulate ((length piece + 7) / 8) (λ q. number 8 (λ b. getD piece (q * 8 + (7 - b)) false)) q 0
+        ∙ sym (getD-tabulate ((length piece + 7) / 8) (λ q. fromBits 8 (λ b. getD piece (q * 8 + (7 - b)) false)) q 0
         (rw (piece-bytes sized-found k i lk (rw (sized-found .pieces-are) at li)) lq))
 
     members-body : body d 3 ≡ concatenation (map partitionBytes (contents P d .members))

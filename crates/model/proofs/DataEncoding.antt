@@ -9,7 +9,7 @@ use native.Mathlib.Omega.{arith}
 use lib.ListN.{length, getD, length-map, List·getD-eq-default}
 use Rattle.model.specs.Tests.{Is}
 use Rattle.model.specs.Bytes.{Bytes, byte}
-use Rattle.model.specs.Words.{bit, number}
+use Rattle.model.specs.Words.{bit, fromBits}
 use Rattle.model.specs.Layout.{Plan, mapCount, suppliedCount, source, suppliedRegion}
 use Rattle.model.specs.AcceptedPlans.{Limits}
 use Rattle.model.specs.DataSets.{DataSet, dataOf, pieces, size, entryStart, entry, pieceBytes, memberStart, suppliedBit, padBitsClear, wellFramed}
@@ -49,7 +49,7 @@ member-read :
     (elements : List Bool) (e : ℕ) → e / 8 < (length elements + 7) / 8 →
     bit (byte (memberBytes elements) (e / 8)) (7 - e % 8) ≡ getD elements e false
 member-read elements e lt =
-    rw (getD-tabulate ((length elements + 7) / 8) (λ q. number 8 (λ b. getD elements (q * 8 + (7 - b)) false)) (e / 8) 0 lt)
+    rw (getD-tabulate ((length elements + 7) / 8) (λ q. fromBits 8 (λ b. getD elements (q * 8 + (7 - b)) false)) (e / 8) 0 lt)
     (bit-number 8 (λ b. getD elements (e / 8 * 8 + (7 - b)) false) (7 - e % 8) (omega arith)
     ∙ ap (λ (k : ℕ). getD elements k false) (place e))
   where
@@ -292,7 +292,7 @@ module _ (P : Plan) (L : Limits P) (C : DataContents) (W : ContentsWithinLimits 
 
       bits : (elements : List Bool) → Octets (memberBytes elements)
       bits elements =
-          each-tabulate (λ n. n < 256) 0 (omega arith) ((length elements + 7) / 8) (λ q. number 8 (λ b. getD elements (q * 8 + (7 - b)) false))
+          each-tabulate (λ n. n < 256) 0 (omega arith) ((length elements + 7) / 8) (λ q. fromBits 8 (λ b. getD elements (q * 8 + (7 - b)) false))
           (λ q lt. number-less 8 (λ b. getD elements (q * 8 + (7 - b)) false))
 
       u16s : (numbers : List ℕ) → ((i : ℕ) → getD numbers i 0 < 65536) → Octets (concatenation (map u16Bytes numbers))

@@ -15,7 +15,7 @@ use Rattle.model.specs.Layout.{Plan, planOf, nodeCount}
 use Rattle.model.specs.Nodes.{nodeRegionRows, nodeRegionStep, nodeRegion}
 use Rattle.model.specs.DataSets.{DataSet, dataOf, pieces, size, entryStart, entry, low, past, mapsTo, pieceBytes, memberStart, suppliedBit, supplied}
 use Rattle.model.specs.Membership.{equal, operators, nodeSets, member}
-use Rattle.model.specs.Words.{number, word, store}
+use Rattle.model.specs.Words.{fromBits, word, store}
 use Rattle.model.specs.Evaluation.{evaluation, nodeWord, filledWords}
 use Rattle.model.specs.AcceptedPlans.{Facts}
 use Rattle.model.specs.declared.Answer.the-variants.{Accepted}
@@ -89,7 +89,7 @@ module _ (P : Plan) (D : DataSet) where
   bitsLeft w = min 64 (size D (nodeRegion P (w / 8 / pieces D)) - w % 8 * 64)
 
   abbrev shortWord : ℕ → ℕ
-  shortWord w = number (bitsLeft w) (λ b. member P D (w / 8 / pieces D) (w / 8 % pieces D) (w % 8 * 64 + b))
+  shortWord w = fromBits (bitsLeft w) (λ b. member P D (w / 8 / pieces D) (w / 8 % pieces D) (w % 8 * 64 + b))
 
   short-word : Facts P → Fit P D → (w : ℕ) → w / 8 / pieces D < nodeCount P → nodeWord P D w ≡ shortWord w
   unfolding nodeWord word
@@ -108,7 +108,7 @@ unfolding
     boundary body _and_ _or_ _==_ _<?_ _≤?_ any pick below levels course
     nodeRegionRows nodeRegionStep nodeRegion union intersection image contiguous equalStart
     size entryStart entry low past mapsTo pieceBytes memberStart suppliedBit supplied equal operators nodeSets member
-    filledWords number store
+    filledWords fromBits store
 example-words =
     store-same (replicate 192 0) 0 192 _ _
     (λ w lt. short-word (planOf examplePlan) (dataOf (exampleData 7)) example-facts (fit (planOf examplePlan) (exampleData 7) (example-checked .data-passes)) w (omega arith))

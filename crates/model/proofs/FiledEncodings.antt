@@ -3,7 +3,7 @@
 use mathlib.Core.Path.{_≡_, refl}
 use mathlib.Core.Bool.{true, false}
 use mathlib.Core.List.{[], _∷_}
-use Rattle.model.specs.Words.{number}
+use Rattle.model.specs.Words.{fromBits}
 use Rattle.model.specs.Encoding.{PlanRecords, planBytes, DataContents, memberBytes, dataBytes}
 use Rattle.model.proofs.FiledPlans.{planA, dataD}
 
@@ -31,5 +31,5 @@ pub record FiledEncodings : Type 0 where
       memberBytes (true ∷ false ∷ true ∷ false ∷ false ∷ false ∷ false ∷ false ∷ true ∷ []) ≡ 0xA0 ∷ 0x80 ∷ []
 
 pub filed-encodings : FiledEncodings
-unfolding number
+unfolding fromBits
 filed-encodings = record { plan-A = refl; data-D = refl; nine-elements = refl }

@@ -14,7 +14,7 @@ use lib.Pow.{shr-shr}
 use lib.ListN.{length, getD, set, drop, length-set}
 use lib.Seq.{getD-set-same, getD-set-other, drop-set-lt, ext-getD}
 use Rattle.model.specs.Tests.{_==_}
-use Rattle.model.specs.Words.{bit, holds, digit, number, word, store}
+use Rattle.model.specs.Words.{bit, holds, digit, fromBits, word, store}
 
 -- one bit at a time
 pub bit-first : (w : ℕ) → bit w 0 ≡ (w % 2 == 1)
@@ -46,36 +46,36 @@ digit-test (suc zero) h = refl
 digit-test (suc (suc x)) h = absurd (omega arith)
 
 -- a number of bits: its half has the bits above the first, its rest is the first
-pub number-half : (n : ℕ) (bits : ℕ → Bool) → number (suc n) bits / 2 ≡ number n (λ b. bits (suc b))
-unfolding number
-number-half n bits = digits-div (number n (λ b. bits (suc b))) (digit-less (bits 0))
+pub number-half : (n : ℕ) (bits : ℕ → Bool) → fromBits (suc n) bits / 2 ≡ fromBits n (λ b. bits (suc b))
+unfolding fromBits
+number-half n bits = digits-div (fromBits n (λ b. bits (suc b))) (digit-less (bits 0))
 
-pub number-rest : (n : ℕ) (bits : ℕ → Bool) → number (suc n) bits % 2 ≡ digit (bits 0)
-unfolding number
-number-rest n bits = digits-mod (number n (λ b. bits (suc b))) (digit-less (bits 0))
+pub number-rest : (n : ℕ) (bits : ℕ → Bool) → fromBits (suc n) bits % 2 ≡ digit (bits 0)
+unfolding fromBits
+number-rest n bits = digits-mod (fromBits n (λ b. bits (suc b))) (digit-less (bits 0))
 
 -- bit b of a number of bits is `bits b`
-pub bit-number : (n : ℕ) (bits : ℕ → Bool) (b : ℕ) → b < n → bit (number n bits) b ≡ bits b
+pub bit-number : (n : ℕ) (bits : ℕ → Bool) (b : ℕ) → b < n → bit (fromBits n bits) b ≡ bits b
 bit-number zero bits b h = absurd (omega arith)
-bit-number (suc n) bits zero h = bit-first (number (suc n) bits) ∙ ap (λ (x : ℕ). x == 1) (number-rest n bits) ∙ test-digit (bits 0)
+bit-number (suc n) bits zero h = bit-first (fromBits (suc n) bits) ∙ ap (λ (x : ℕ). x == 1) (number-rest n bits) ∙ test-digit (bits 0)
 bit-number (suc n) bits (suc b) h =
-    bit-next (number (suc n) bits) b ∙ ap (λ (x : ℕ). bit x b) (number-half n bits) ∙ bit-number n (λ b. bits (suc b)) b (omega arith)
+    bit-next (fromBits (suc n) bits) b ∙ ap (λ (x : ℕ). bit x b) (number-half n bits) ∙ bit-number n (λ b. bits (suc b)) b (omega arith)
 
 -- and 0 at or above n
-pub bit-past : (n : ℕ) (bits : ℕ → Bool) (b : ℕ) → n ≤ b → bit (number n bits) b ≡ false
-unfolding number
+pub bit-past : (n : ℕ) (bits : ℕ → Bool) (b : ℕ) → n ≤ b → bit (fromBits n bits) b ≡ false
+unfolding fromBits
 bit-past zero bits b h = bit-zero b
 bit-past (suc n) bits zero h = absurd (omega arith)
 bit-past (suc n) bits (suc b) h =
-    bit-next (number (suc n) bits) b ∙ ap (λ (x : ℕ). bit x b) (number-half n bits) ∙ bit-past n (λ b. bits (suc b)) b (omega arith)
+    bit-next (fromBits (suc n) bits) b ∙ ap (λ (x : ℕ). bit x b) (number-half n bits) ∙ bit-past n (λ b. bits (suc b)) b (omega arith)
 
-pub number-less : (n : ℕ) (bits : ℕ → Bool) → number n bits < 2 ^ n
-unfolding number
+pub number-less : (n : ℕ) (bits : ℕ → Bool) → fromBits n bits < 2 ^ n
+unfolding fromBits
 number-less zero bits = omega arith
 number-less (suc n) bits = rw pow-suc (digits-lt (number-less n (λ b. bits (suc b))) (digit-less (bits 0)))
 
-pub number-same : (n : ℕ) (f g : ℕ → Bool) → ((b : ℕ) → b < n → f b ≡ g b) → number n f ≡ number n g
-unfolding number
+pub number-same : (n : ℕ) (f g : ℕ → Bool) → ((b : ℕ) → b < n → f b ≡ g b) → fromBits n f ≡ fromBits n g
+unfolding fromBits
 number-same zero f g h = refl
 number-same (suc n) f g h =
     ap₂ (λ (x y : ℕ). x * 2 + y)
@@ -83,8 +83,8 @@ number-same (suc n) f g h =
     (ap digit (h 0 (omega arith)))
 
 -- a number is the number of its bits
-pub number-bits : (n w : ℕ) → w < 2 ^ n → number n (bit w) ≡ w
-unfolding number
+pub number-bits : (n w : ℕ) → w < 2 ^ n → fromBits n (bit w) ≡ w
+unfolding fromBits
 number-bits zero w h = sym (lt-one h)
 number-bits (suc n) w h =
     ap₂ (λ (x y : ℕ). x * 2 + y)
@@ -93,15 +93,15 @@ number-bits (suc n) w h =
     ∙ div-add-mod' w 2
 
 -- so its bits decide it
-pub is-number : (n w : ℕ) (bits : ℕ → Bool) → w < 2 ^ n → ((b : ℕ) → b < n → bit w b ≡ bits b) → w ≡ number n bits
+pub is-number : (n w : ℕ) (bits : ℕ → Bool) → w < 2 ^ n → ((b : ℕ) → b < n → bit w b ≡ bits b) → w ≡ fromBits n bits
 is-number n w bits h same = sym (number-bits n w h) ∙ number-same n (bit w) bits same
 
 pub bits-decide : (n w v : ℕ) → w < 2 ^ n → v < 2 ^ n → ((b : ℕ) → b < n → bit w b ≡ bit v b) → w ≡ v
 bits-decide n w v h k same = is-number n w (bit v) h same ∙ number-bits n v k
 
 -- bits of 0 above the first n add nothing
-pub number-cut : (n m : ℕ) (bits : ℕ → Bool) → ((b : ℕ) → n ≤ b → b < m → bits b ≡ false) → n ≤ m → number m bits ≡ number n bits
-unfolding number
+pub number-cut : (n m : ℕ) (bits : ℕ → Bool) → ((b : ℕ) → n ≤ b → b < m → bits b ≡ false) → n ≤ m → fromBits m bits ≡ fromBits n bits
+unfolding fromBits
 number-cut zero zero bits none le = refl
 number-cut (suc n) zero bits none le = absurd (omega arith)
 number-cut zero (suc m) bits none le =

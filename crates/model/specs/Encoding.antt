@@ -6,7 +6,7 @@ use mathlib.Core.Bool.{Bool, false}
 use mathlib.Core.List.{List, [], _∷_, _++_, map}
 use lib.ListN.{getD, length}
 use Rattle.model.specs.Bytes.{Bytes, byte}
-use Rattle.model.specs.Words.{number}
+use Rattle.model.specs.Words.{fromBits}
 use Rattle.model.specs.Layout.{Plan, regionCount, mapCount, suppliedCount, source, suppliedRegion}
 
 -- lists one after the other
@@ -86,7 +86,7 @@ pub record DataContents : Type 0 where
 -- q * 8 + (7 - b)
 abbrev pub memberBytes : List Bool → Bytes
 memberBytes elements =
-    tabulate ((length elements + 7) / 8) (λ q. number 8 (λ b. getD elements (q * 8 + (7 - b)) false))
+    tabulate ((length elements + 7) / 8) (λ q. fromBits 8 (λ b. getD elements (q * 8 + (7 - b)) false))
 
 -- "piece by piece"
 abbrev pub partitionBytes : List (List Bool) → Bytes

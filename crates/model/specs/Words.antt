@@ -19,13 +19,13 @@ digit true = 1
 digit false = 0
 
 -- the number of n bits whose bit b is `bits b`
-unfoldable pub number : ℕ → (ℕ → Bool) → ℕ
-number zero bits = 0
-number (suc n) bits = number n (λ b. bits (suc b)) * 2 + digit (bits 0)
+unfoldable pub fromBits : ℕ → (ℕ → Bool) → ℕ
+fromBits zero bits = 0
+fromBits (suc n) bits = fromBits n (λ b. bits (suc b)) * 2 + digit (bits 0)
 
 -- word w of a set: its elements w * 64 to w * 64 + 63
 unfoldable pub word : (ℕ → Bool) → ℕ → ℕ
-word elements w = number 64 (λ b. elements (w * 64 + b))
+word elements w = fromBits 64 (λ b. elements (w * 64 + b))
 
 -- the words with n of them, from `at` on, replaced: value 0, value 1, ..
 unfoldable pub store : List ℕ → ℕ → ℕ → (ℕ → ℕ) → List ℕ

@@ -17,11 +17,11 @@ use Rattle.model.specs.declared.StatementKind.the-variants.{For, Load, Call, Co
 use Rattle.model.proofs.Tests.{falsum}
 use Rattle.loops.specs.Tables.{statementParts}
 use Rattle.loops.proofs.Pairs.{kind-of-plan}
-use Rattle.plan.specs.Needs.{NodesNumbered, ImageSought, boundAt, BoundSources}
-use Rattle.expressions.specs.Nodes.{nodeNumber}
+use Rattle.plan.specs.Needs.{NodesKeyed, ImageSought, boundAt, BoundSources}
+use Rattle.expressions.specs.Nodes.{nodeKey}
 
 -- by the kind that was read of statement s
-module _ {P : Plan} {statements assignments : Bytes} {numbers : List ℕ} {nodes : ℕ} (known : BoundSources P statements assignments numbers nodes) (s : ℕ)
+module _ {P : Plan} {statements assignments : Bytes} {keys : List ℕ} {nodes : ℕ} (known : BoundSources P statements assignments keys nodes) (s : ℕ)
     {k read : StatementKind} (is : read ≡ kind (statementParts statements) s) (told : read ≡ k) where
   by-kind : (earlier : ℕ → ℕ) {n : ℕ} → n ≡ boundBy P k s earlier → n ≡ boundAt P s earlier
   unfolding boundAt
@@ -52,17 +52,17 @@ module _ {P : Plan} {statements assignments : Bytes} {numbers : List ℕ} {nodes
       at Load d o = falsum (sym d)
       at Call d o = falsum (sym d)
       at Copy d o = falsum (sym d)
-      at Read d o = known .numbered .count-is
-      at Write d o = known .numbered .count-is
-      at Reduce d o = known .numbered .count-is
-      at Unknown d o = known .numbered .count-is
+      at Read d o = known .keyed .count-is
+      at Write d o = known .keyed .count-is
+      at Reduce d o = known .keyed .count-is
+      at Unknown d o = known .keyed .count-is
 
 -- node j is the image of a node under a map
 abbrev pub isImage : Plan → ℕ → ℕ → ℕ → Bool
 isImage P node map j = nodeKind P j == IMAGE and nodeA P j == node and nodeB P j == map
 
-pub image-told : (P : Plan) {numbers : List ℕ} {nodes node map wanted : ℕ} {b : Bool} (j : ℕ) → NodesNumbered P numbers nodes
-    → ImageSought nodes node map → j < nodes → wanted ≡ nodeNumber IMAGE node map → (getD numbers j 0 == wanted) ≡ b → isImage P node map j ≡ b
+pub image-told : (P : Plan) {keys : List ℕ} {nodes node map wanted : ℕ} {b : Bool} (j : ℕ) → NodesKeyed P keys nodes
+    → ImageSought nodes node map → j < nodes → wanted ≡ nodeKey IMAGE node map → (getD keys j 0 == wanted) ≡ b → isImage P node map j ≡ b
 image-told P j known sought lt e h =
     let count = known .count-is in
-    sym (known .numbers-are j (omega arith) IMAGE _ _ (omega arith) (sought .small-node) (sought .small-map)) ∙ rw (← e) h
+    sym (known .keys-are j (omega arith) IMAGE _ _ (omega arith) (sought .small-node) (sought .small-map)) ∙ rw (← e) h

@@ -72,7 +72,7 @@ module _ (regions maps supplied statements nodes assignments steps : Bytes) wher
     pub nodes-known : {checked : CheckedNodes} → checked .outcome ≡ Pass →
         NodesChecked (nodeParts regions maps supplied nodes) checked →
         StatementsKnown whole operands variableRegions centers →
-        NodesKnown (parts [] maps supplied statements nodes assignments steps) operands variableRegions centers (checked .regions) (checked .numbers)
+        NodesKnown (parts [] maps supplied statements nodes assignments steps) operands variableRegions centers (checked .regions) (checked .keys)
     unfolding kind opens defines loopBefore variables definition operandBy operand operandDefinition regionBy variableRegion centeredBy centered nodeRegionRows nodeRegionStep nodeRegion
     nodes-known pass read known =
         let limits = known .limits in
@@ -81,19 +81,19 @@ module _ (regions maps supplied statements nodes assignments steps : Bytes) wher
           few = record { few-statements = limits .few-statements; few-nodes = limits .few-nodes; few-steps = limits .few-steps };
           statement-tables = record { operands-are = tables .operands-are; regions-are = tables .regions-are; centers-are = tables .centers-are };
           node-regions = read .regions pass;
-          numbered = record { count-is = refl; numbers-are = read .numbers pass };
+          keyed = record { count-is = refl; keys-are = read .keys pass };
         }
 
   -- what the needs are settled with
-  pub needs-known : {operands numbers conclusions : List ℕ} {centers : List Bool} → StepsReady whole operands centers numbers →
+  pub needs-known : {operands keys conclusions : List ℕ} {centers : List Bool} → StepsReady whole operands centers keys →
       Concluded (stepParts maps supplied nodes steps) (stepCount whole) conclusions →
-      NeedsKnown whole statements assignments operands centers numbers (nodeCount whole) conclusions (stepCount whole)
+      NeedsKnown whole statements assignments operands centers keys (nodeCount whole) conclusions (stepCount whole)
   unfolding concludesSubset concludesDisjoint concludesComplete
   needs-known ready told =
       record {
         sources =
             record {
-              bounds = record { statements-are = refl; assignments-are = refl; numbered = ready .numbered };
+              bounds = record { statements-are = refl; assignments-are = refl; keyed = ready .keyed };
               pointers = ready .pointers;
             };
         steps-are = refl;

@@ -8,8 +8,8 @@ use Rattle.plan.specs.Symbols.{AssignmentsKnown}
 use Rattle.plan.specs.Sections.{NodesKnown, StepsReady}
 
 module _ {P : Plan} {operands regions : List ℕ} {centers : List Bool} where
-  pub assignments-known : {nodeRegions numbers : List ℕ} →
-      NodesKnown P operands regions centers nodeRegions numbers →
+  pub assignments-known : {nodeRegions keys : List ℕ} →
+      NodesKnown P operands regions centers nodeRegions keys →
       AssignmentsKnown P (P .statements) (P .assignments) (nodeCount P) nodeRegions operands regions
   assignments-known known =
       let tables = known .statement-tables in
@@ -20,11 +20,11 @@ module _ {P : Plan} {operands regions : List ℕ} {centers : List Bool} where
         node-regions-are = known .node-regions;
       }
 
-  pub steps-ready : {nodeRegions numbers : List ℕ} → NodesKnown P operands regions centers nodeRegions numbers → StepsReady P operands centers numbers
+  pub steps-ready : {nodeRegions keys : List ℕ} → NodesKnown P operands regions centers nodeRegions keys → StepsReady P operands centers keys
   steps-ready known =
       let tables = known .statement-tables in
       record {
         few = known .few;
         pointers = record { section = refl; operands-are = tables .operands-are; centers-are = tables .centers-are };
-        numbered = known .numbered;
+        keyed = known .keyed;
       }

@@ -126,8 +126,8 @@ listing-starts P fit =
     }
 
 -- statement s is entered into the tables
-module _ {P : Plan} {statements assignments : Bytes} {operands : List ℕ} {centers : List Bool} {numbers : List ℕ} {nodes : ℕ}
-    (known : NeedSources P statements assignments operands centers numbers nodes) (s : ℕ) (few : s < 64) (inside : s < length statements / 4)
+module _ {P : Plan} {statements assignments : Bytes} {operands : List ℕ} {centers : List Bool} {keys : List ℕ} {nodes : ℕ}
+    (known : NeedSources P statements assignments operands centers keys nodes) (s : ℕ) (few : s < 64) (inside : s < length statements / 4)
     {number : ℕ} {bounds claims symbols : List ℕ} (listing : Listing P s number bounds claims symbols) {o followed b : ℕ}
     (works-on : o ≡ getD operands s 0) (follows : followed ≡ below nodes s (λ d. getD bounds d 0) o)
     (defines-bound : b ≡ boundAt P s (λ d. followed)) where
@@ -138,7 +138,7 @@ module _ {P : Plan} {statements assignments : Bytes} {operands : List ℕ} {cent
 
   bounds-next : Table 0 (s + 1) (set bounds s b) (bound P)
   bounds-next =
-      let earlier = follows ∙ rw (known .bounds .numbered .count-is) (earlier-holds (nodeCount P) (listing .bounds-are) o)
+      let earlier = follows ∙ rw (known .bounds .keyed .count-is) (earlier-holds (nodeCount P) (listing .bounds-are) o)
       ∙ ap (below (nodeCount P) s (bound P)) operand-is in
       stored few (defines-bound ∙ bound-value P s followed earlier) (listing .bounds-are)
 
@@ -156,7 +156,7 @@ module _ {P : Plan} {statements assignments : Bytes} {operands : List ℕ} {cent
         number-is = symbol-next P (known .pointers .section) s (listing .number-is) a;
         bounds-are = bounds-next;
         needs-are = listed-next P s few (listing .needs-are)
-            (rw (f, kind-of-plan P (known .pointers .section) s k, node-is, operand-bound v, known .bounds .numbered .count-is))
+            (rw (f, kind-of-plan P (known .pointers .section) s k, node-is, operand-bound v, known .bounds .keyed .count-is))
             (rw (g, r, node-is))
             (z ∙ listing .number-is)
             (rw (← node-is) small);

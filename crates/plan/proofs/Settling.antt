@@ -24,7 +24,7 @@ use Rattle.model.proofs.Tests.{falsum, one, less}
 use Rattle.model.proofs.Outcomes.{required, then-assoc}
 use Rattle.plan.specs.Needs.{NOTHING, UNLISTED, firstClaim, secondClaim, Listed, settled}
 use Rattle.primitives.proofs.Searches.{any-same, none-of}
-use Rattle.expressions.specs.Steps.{subsetNumber, disjointNumber, completeNumber, Concluded}
+use Rattle.expressions.specs.Steps.{subsetKey, disjointKey, completeKey, Concluded}
 use Rattle.plan.specs.declared.needs.Found.{Found}
 use Rattle.plan.specs.declared.needs.Found.the-variants.{At, Nowhere}
 
@@ -95,13 +95,13 @@ module _ (P : Plan) {conclusions : List ℕ} (known : Concluded P (stepCount P) 
   unlisted =
       rw (none-of (stepCount P) (λ t. getD conclusions t 0 == UNLISTED) (λ t lt. ne-eqb (getD conclusions t 0) UNLISTED (λ e. omega (arith, known .small t lt))))
 
-  complete-met : (x : ℕ) → x < 256 → isMet (completeNumber x) ≡ any (stepCount P) (λ t. concludesComplete P t x)
+  complete-met : (x : ℕ) → x < 256 → isMet (completeKey x) ≡ any (stepCount P) (λ t. concludesComplete P t x)
   complete-met x small = asked _ (omega arith) (λ t lt. known .completes t lt x small)
 
-  disjoint-met : (x : ℕ) → x < 256 → isMet (disjointNumber x) ≡ any (stepCount P) (λ t. concludesDisjoint P t x)
+  disjoint-met : (x : ℕ) → x < 256 → isMet (disjointKey x) ≡ any (stepCount P) (λ t. concludesDisjoint P t x)
   disjoint-met x small = asked _ (omega arith) (λ t lt. known .disjoints t lt x small)
 
-  subset-met : (x y : ℕ) → x < 256 → y < 256 → isMet (subsetNumber x y) ≡ any (stepCount P) (λ t. concludesSubset P t x y)
+  subset-met : (x y : ℕ) → x < 256 → y < 256 → isMet (subsetKey x y) ≡ any (stepCount P) (λ t. concludesSubset P t x y)
   subset-met x y small-x small-y = asked _ (omega arith) (λ t lt. known .subsets t lt x y small-x small-y)
 
   -- the two needs of a statement are met where the definition's are

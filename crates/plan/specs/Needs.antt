@@ -15,13 +15,13 @@ use Rattle.model.specs.declared.StatementKind.{StatementKind}
 use Rattle.model.specs.declared.Outcome.{Outcome}
 use Rattle.model.specs.declared.Refusal.the-variants.{UnmetNeed}
 use Rattle.loops.specs.Loops.{PointersKnown}
-use Rattle.expressions.specs.Nodes.{NodeNumbers}
-use Rattle.expressions.specs.Steps.{subsetNumber, disjointNumber, completeNumber, Concluded}
+use Rattle.expressions.specs.Nodes.{NodeKeys}
+use Rattle.expressions.specs.Steps.{subsetKey, disjointKey, completeKey, Concluded}
 
 -- a plan of so many nodes, and the table of their numbers
-pub record NodesNumbered (P : Plan) (numbers : List ℕ) (nodes : ℕ) : Type 0 where
+pub record NodesKeyed (P : Plan) (keys : List ℕ) (nodes : ℕ) : Type 0 where
   pub count-is : nodes ≡ nodeCount P
-  pub numbers-are : NodeNumbers P numbers
+  pub keys-are : NodeKeys P keys
 
 -- an image that may be asked for
 pub record ImageSought (nodes node map : ℕ) : Type 0 where
@@ -34,10 +34,10 @@ unfoldable pub boundAt : Plan → ℕ → (ℕ → ℕ) → ℕ
 boundAt P s earlier = boundBy P (kind P s) s earlier
 
 -- what bounds depend on: statements, assignments and nodes
-pub record BoundSources (P : Plan) (statements assignments : Bytes) (numbers : List ℕ) (nodes : ℕ) : Type 0 where
+pub record BoundSources (P : Plan) (statements assignments : Bytes) (keys : List ℕ) (nodes : ℕ) : Type 0 where
   pub statements-are : P .statements ≡ statements
   pub assignments-are : P .assignments ≡ assignments
-  pub numbered : NodesNumbered P numbers nodes
+  pub keyed : NodesKeyed P keys nodes
 
 -- a bound that may be asked for: few nodes and statements, and the bound to follow a byte
 pub record BoundSought (nodes s followed : ℕ) : Type 0 where
@@ -55,12 +55,12 @@ NOTHING = 196609
 -- what the symbol of a statement needs by its kind: "FOR needs COMP of its node", "An access needs SUB(bound, its node)"
 unfoldable pub firstClaim : StatementKind → ℕ → ℕ → ℕ → ℕ
 firstClaim kind node bound nodes =
-    pick (opensLoop kind) (completeNumber node)
-    (pick (isAccess (accessOf kind)) (pick (bound <? nodes) (subsetNumber bound node) UNLISTED) NOTHING)
+    pick (opensLoop kind) (completeKey node)
+    (pick (isAccess (accessOf kind)) (pick (bound <? nodes) (subsetKey bound node) UNLISTED) NOTHING)
 
 -- and besides, for a loop that reduces through a pointer: "DISJ"
 unfoldable pub secondClaim : Bool → ℕ → ℕ
-secondClaim reduces node = pick reduces (disjointNumber node) NOTHING
+secondClaim reduces node = pick reduces (disjointKey node) NOTHING
 
 -- a node's number, and the number of nodes
 pub record ClaimParts (node nodes : ℕ) : Type 0 where
@@ -68,9 +68,9 @@ pub record ClaimParts (node nodes : ℕ) : Type 0 where
   pub few-nodes : nodes ≤ 48
 
 -- what needs depend on: the sources of bounds, and what the statements work on
-pub record NeedSources (P : Plan) (statements assignments : Bytes) (operands : List ℕ) (centers : List Bool) (numbers : List ℕ)
+pub record NeedSources (P : Plan) (statements assignments : Bytes) (operands : List ℕ) (centers : List Bool) (keys : List ℕ)
     (nodes : ℕ) : Type 0 where
-  pub bounds : BoundSources P statements assignments numbers nodes
+  pub bounds : BoundSources P statements assignments keys nodes
   pub pointers : PointersKnown P statements operands centers
 
 -- few statements and nodes, and tables with room for two claims and a symbol of each statement
@@ -101,8 +101,8 @@ pub record Few (statements : Bytes) (nodes steps : ℕ) : Type 0 where
   pub few-steps : steps ≤ 128
 
 -- the sources of the needs, and tables of what each step concludes
-pub record NeedsKnown (P : Plan) (statements assignments : Bytes) (operands : List ℕ) (centers : List Bool) (numbers : List ℕ)
+pub record NeedsKnown (P : Plan) (statements assignments : Bytes) (operands : List ℕ) (centers : List Bool) (keys : List ℕ)
     (nodes : ℕ) (conclusions : List ℕ) (steps : ℕ) : Type 0 where
-  pub sources : NeedSources P statements assignments operands centers numbers nodes
+  pub sources : NeedSources P statements assignments operands centers keys nodes
   pub steps-are : steps ≡ stepCount P
   pub concluded : Concluded P (stepCount P) conclusions

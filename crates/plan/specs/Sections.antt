@@ -15,7 +15,7 @@ use Rattle.model.specs.declared.Outcome.{Outcome}
 use Rattle.model.specs.declared.Outcome.the-variants.{Pass}
 use Rattle.loops.specs.Tables.{StatementTables}
 use Rattle.loops.specs.Loops.{PointersKnown}
-use Rattle.plan.specs.Needs.{NodesNumbered, Few}
+use Rattle.plan.specs.Needs.{NodesKeyed, Few}
 use Rattle.expressions.specs.Steps.{stepsCheck}
 use Rattle.plan.specs.declared.records.CheckedStatements.{CheckedStatements}
 
@@ -63,14 +63,14 @@ module _ (P : Plan) (operands regions : List ℕ) (centers : List Bool) where
     pub statement-tables : StatementTables P (statementCount P) operands regions centers
 
   -- the tables of the nodes hold their regions and numbers too
-  pub record NodesKnown (nodeRegions numbers : List ℕ) : Type 0 where
+  pub record NodesKnown (nodeRegions keys : List ℕ) : Type 0 where
     pub few : Few (P .statements) (nodeCount P) (stepCount P)
     pub statement-tables : StatementTables P (statementCount P) operands regions centers
     pub node-regions : (j : ℕ) → j < nodeCount P → getD nodeRegions j 0 ≡ nodeRegion P j
-    pub numbered : NodesNumbered P numbers (nodeCount P)
+    pub keyed : NodesKeyed P keys (nodeCount P)
 
 -- what section 7 and the needs ask for
-pub record StepsReady (P : Plan) (operands : List ℕ) (centers : List Bool) (numbers : List ℕ) : Type 0 where
+pub record StepsReady (P : Plan) (operands : List ℕ) (centers : List Bool) (keys : List ℕ) : Type 0 where
   pub few : Few (P .statements) (nodeCount P) (stepCount P)
   pub pointers : PointersKnown P (P .statements) operands centers
-  pub numbered : NodesNumbered P numbers (nodeCount P)
+  pub keyed : NodesKeyed P keys (nodeCount P)

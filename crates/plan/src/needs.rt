@@ -1,14 +1,14 @@
 // Needs: what the loops ask the steps to conclude, and the search for the steps that do.
 use crate::assignments::next_symbol;
 use expressions::nodes::IMAGE;
-use expressions::nodes::node_number;
-use expressions::steps::complete_number;
-use expressions::steps::disjoint_number;
-use expressions::steps::subset_number;
+use expressions::nodes::node_key;
+use expressions::steps::complete_key;
+use expressions::steps::disjoint_key;
+use expressions::steps::subset_key;
 use loops::kinds::access_of;
 use loops::kinds::is_access;
 use loops::kinds::opens_loop;
-use loops::lookup::earlier_number;
+use loops::lookup::earlier_byte;
 use loops::parallel::reduces_through_pointer;
 use loops::statements::kind_at;
 use model::Outcome;
@@ -26,7 +26,7 @@ ghost use Rattle.model.specs.Parallel.{reducesThroughPointer};
 ghost use Rattle.model.specs.Needs as Needs;
 ghost use Rattle.model.specs.Needs.{imageNode, needCheck};
 ghost use Rattle.loops.specs.Loops.{Within, PointersKnown};
-ghost use Rattle.plan.specs.Needs.{NodesNumbered, ImageSought, boundAt, BoundSources, BoundSought, firstClaim, secondClaim, ClaimParts, NeedSources, NeedsFit, Listed, settled, Few, NeedsKnown};
+ghost use Rattle.plan.specs.Needs.{NodesKeyed, ImageSought, boundAt, BoundSources, BoundSought, firstClaim, secondClaim, ClaimParts, NeedSources, NeedsFit, Listed, settled, Few, NeedsKnown};
 
 // The claim of a bound that is not listed as a node: no step concludes it.
 pub const UNLISTED: u32 = 196608;
@@ -41,14 +41,14 @@ pub enum Found {
 }
 
 // The image of a node under a map; the number of nodes where it is not listed.
-fn image_node(numbers: &[u32; 48], nodes: usize, node: usize, map: usize) -> usize
+fn image_node(keys: &[u32; 48], nodes: usize, node: usize, map: usize) -> usize
     requires { ⌜ ImageSought nodes node map ⌝ }
-    ensures { λ r. ⌜ ((P : Plan) → NodesNumbered P (now (numbers .entry)) nodes → r ≡ imageNode P node map) × (r ≤ nodes) ⌝ }
+    ensures { λ r. ⌜ ((P : Plan) → NodesKeyed P (now (keys .entry)) nodes → r ≡ imageNode P node map) × (r ≤ nodes) ⌝ }
 {
-    let wanted = node_number(IMAGE, node, map);
+    let wanted = node_key(IMAGE, node, map);
     let mut j = 0;
     while j < nodes {
-        if numbers[j] == wanted {
+        if keys[j] == wanted {
             return j;
         }
         j += 1;
@@ -60,20 +60,20 @@ fn image_node(numbers: &[u32; 48], nodes: usize, node: usize, map: usize) -> usi
 fn variable_bound(
     statements: &[u8],
     assignments: &[u8],
-    numbers: &[u32; 48],
+    keys: &[u32; 48],
     nodes: usize,
     s: usize,
     symbol: usize,
     followed: usize,
 ) -> usize
     requires { ⌜ BoundSought nodes s followed ⌝ }
-    ensures { λ r. ⌜ ((P : Plan) → BoundSources P (now (statements .entry)) (now (assignments .entry)) (now (numbers .entry)) nodes → symbol ≡ Needs.symbol P s → r ≡ boundAt P s (λ d. followed)) × (r < 256) ⌝ }
+    ensures { λ r. ⌜ ((P : Plan) → BoundSources P (now (statements .entry)) (now (assignments .entry)) (now (keys .entry)) nodes → symbol ≡ Needs.symbol P s → r ≡ boundAt P s (λ d. followed)) × (r < 256) ⌝ }
 {
     let map = byte_at(statements, s * 4 + 1);
     match kind_at(statements, s) {
         StatementKind::For => byte_at(assignments, symbol),
-        StatementKind::Load => image_node(numbers, nodes, followed, map),
-        StatementKind::Call => image_node(numbers, nodes, followed, map),
+        StatementKind::Load => image_node(keys, nodes, followed, map),
+        StatementKind::Call => image_node(keys, nodes, followed, map),
         StatementKind::Copy => followed,
         StatementKind::Read => nodes,
         StatementKind::Write => nodes,
@@ -88,13 +88,13 @@ fn first_claim(kind: StatementKind, node: usize, bound: usize, nodes: usize) -> 
     ensures { λ r. ⌜ r ≡ firstClaim kind node bound nodes ⌝ }
 {
     if opens_loop(kind) {
-        return complete_number(node);
+        return complete_key(node);
     }
     if !is_access(access_of(kind)) {
         return NOTHING;
     }
     if bound < nodes {
-        subset_number(bound, node)
+        subset_key(bound, node)
     } else {
         UNLISTED
     }
@@ -117,7 +117,7 @@ fn second_claim(reduces: bool, node: usize) -> u32
     ensures { λ r. ⌜ r ≡ secondClaim reduces node ⌝ }
 {
     if reduces {
-        disjoint_number(node)
+        disjoint_key(node)
     } else {
         NOTHING
     }
@@ -165,13 +165,13 @@ fn list_needs(
     assignments: &[u8],
     operands: &[u8],
     centered: &[bool],
-    numbers: &[u32; 48],
+    keys: &[u32; 48],
     nodes: usize,
     claims: &mut [u32; 128],
     symbols: &mut [u8; 64],
 )
     requires { ⌜ NeedsFit (now statements) nodes (now claims) (now symbols) ⌝ }
-    ensures { λ _. ⌜ (length (now (symbols .exit)) ≡ 64) × ((P : Plan) → NeedSources P (now (statements .entry)) (now (assignments .entry)) (now (operands .entry)) (now (centered .entry)) (now (numbers .entry)) nodes → Listed P (statementCount P) (now (claims .exit)) (now (symbols .exit))) ⌝ }
+    ensures { λ _. ⌜ (length (now (symbols .exit)) ≡ 64) × ((P : Plan) → NeedSources P (now (statements .entry)) (now (assignments .entry)) (now (operands .entry)) (now (centered .entry)) (now (keys .entry)) nodes → Listed P (statementCount P) (now (claims .exit)) (now (symbols .exit))) ⌝ }
 {
     let mut bounds = [0u8; 64];
     let mut symbol = 0;
@@ -179,8 +179,8 @@ fn list_needs(
     while s < statements.len() / 4 {
         let node = byte_at(assignments, symbol);
         let operand = byte_at(operands, s);
-        let followed = earlier_number(&bounds, s, operand, nodes);
-        let defined = variable_bound(statements, assignments, numbers, nodes, s, symbol, followed);
+        let followed = earlier_byte(&bounds, s, operand, nodes);
+        let defined = variable_bound(statements, assignments, keys, nodes, s, symbol, followed);
         bounds[s] = defined as u8;
         let bound = byte_at(&bounds, operand);
         claims[s * 2] = first_claim(kind_at(statements, s), node, bound, nodes);
@@ -198,13 +198,13 @@ pub fn check_needs(
     assignments: &[u8],
     operands: &[u8],
     centered: &[bool],
-    numbers: &[u32; 48],
+    keys: &[u32; 48],
     nodes: usize,
     conclusions: &[u32; 128],
     steps: usize,
 ) -> Outcome
     requires { ⌜ Few (now statements) nodes steps ⌝ }
-    ensures { λ r. ⌜ ((P : Plan) → NeedsKnown P (now (statements .entry)) (now (assignments .entry)) (now (operands .entry)) (now (centered .entry)) (now (numbers .entry)) nodes (now (conclusions .entry)) steps → r ≡ scan (needCheck P) 0 (statementCount P)) ⌝ }
+    ensures { λ r. ⌜ ((P : Plan) → NeedsKnown P (now (statements .entry)) (now (assignments .entry)) (now (operands .entry)) (now (centered .entry)) (now (keys .entry)) nodes (now (conclusions .entry)) steps → r ≡ scan (needCheck P) 0 (statementCount P)) ⌝ }
 {
     let mut claims = [NOTHING; 128];
     let mut symbols = [0u8; 64];
@@ -213,7 +213,7 @@ pub fn check_needs(
         assignments,
         operands,
         centered,
-        numbers,
+        keys,
         nodes,
         &mut claims,
         &mut symbols,

@@ -37,9 +37,9 @@ fn check_from_steps(
     steps: &[u8],
     operands: &[u8],
     centered: &[bool],
-    numbers: &[u32; 48],
+    keys: &[u32; 48],
 ) -> Outcome
-    requires { ⌜ StepsReady (parts [] (now maps) (now supplied) (now statements) (now nodes) (now assignments) (now steps)) (now operands) (now centered) (now numbers) ⌝ }
+    requires { ⌜ StepsReady (parts [] (now maps) (now supplied) (now statements) (now nodes) (now assignments) (now steps)) (now operands) (now centered) (now keys) ⌝ }
     ensures { λ r. ⌜ r ≡ fromSteps (parts [] (now (maps .entry)) (now (supplied .entry)) (now (statements .entry)) (now (nodes .entry)) (now (assignments .entry)) (now (steps .entry))) ⌝ }
 {
     let mut conclusions = [0u32; 128];
@@ -52,7 +52,7 @@ fn check_from_steps(
         assignments,
         operands,
         centered,
-        numbers,
+        keys,
         nodes.len() / 4,
         &conclusions,
         steps.len() / 5,
@@ -71,9 +71,9 @@ fn check_from_assignments(
     variable_regions: &[u8],
     centered: &[bool],
     node_regions: &[u8],
-    numbers: &[u32; 48],
+    keys: &[u32; 48],
 ) -> Outcome
-    requires { ⌜ NodesKnown (parts [] (now maps) (now supplied) (now statements) (now nodes) (now assignments) (now steps)) (now operands) (now «variable_regions») (now centered) (now «node_regions») (now numbers) ⌝ }
+    requires { ⌜ NodesKnown (parts [] (now maps) (now supplied) (now statements) (now nodes) (now assignments) (now steps)) (now operands) (now «variable_regions») (now centered) (now «node_regions») (now keys) ⌝ }
     ensures { λ r. ⌜ r ≡ fromAssignments (parts [] (now (maps .entry)) (now (supplied .entry)) (now (statements .entry)) (now (nodes .entry)) (now (assignments .entry)) (now (steps .entry))) ⌝ }
 {
     match check_assignments(
@@ -96,7 +96,7 @@ fn check_from_assignments(
         steps,
         operands,
         centered,
-        numbers,
+        keys,
     )
 }
 
@@ -123,7 +123,7 @@ fn check_from_nodes(
         Outcome::Refuse(refusal) => return Outcome::Refuse(refusal),
     }
     let node_regions = checked.regions;
-    let numbers = checked.numbers;
+    let keys = checked.keys;
     check_from_assignments(
         maps,
         supplied,
@@ -135,7 +135,7 @@ fn check_from_nodes(
         variable_regions,
         centered,
         &node_regions,
-        &numbers,
+        &keys,
     )
 }
 

@@ -2,3 +2,4 @@ pub mod Bodies
 pub mod Scanning
 pub mod Searches
 pub mod Filling
+pub mod Shifts

@@ -5,7 +5,7 @@ ghost use lib.ListN.{getD};
 ghost use Rattle.model.specs.Bytes.{u16};
 
 // A byte as a number.
-pub fn number_of(byte: u8) -> usize
+pub fn usize_of(byte: u8) -> usize
     ensures { λ r. ⌜ (r ≡ byte) × (r < 256) ⌝ }
 {
     byte as usize
@@ -23,7 +23,7 @@ pub fn u16_at(s: &[u8], at: usize) -> usize
     ensures { λ r. ⌜ (r ≡ u16 (now (s .entry)) at) × (r < 65536) ⌝ }
 {
     if at < s.len() {
-        byte_at(s, at) * 256 + byte_at(s, at + 1)
+        (byte_at(s, at) << 8) | byte_at(s, at + 1)
     } else {
         0
     }

@@ -4,7 +4,7 @@ ghost use mathlib.Core.Bool.{false};
 ghost use lib.ListN.{getD};
 
 // The number that a table has for i; 0 past its end.
-pub fn number_at(table: &[usize], i: usize) -> usize
+pub fn usize_at(table: &[usize], i: usize) -> usize
     ensures { λ r. ⌜ r ≡ getD (now (table .entry)) i 0 ⌝ }
 {
     if i < table.len() { table[i] } else { 0 }

@@ -9,15 +9,16 @@ use lib.Pow.{pow-pos, pow-mono}
 use lib.Bits.{bitOr}
 use Rattle.model.specs.Tests.{Is, _and_, _or_, non, any, _==_, _<?_}
 use Rattle.model.specs.Bytes.{Bytes, u16}
-use Rattle.model.specs.Words.{bit, digit, number, word}
+use Rattle.model.specs.Words.{bit, digit, fromBits, word}
 use Rattle.model.proofs.Tests.{falsum, both, pair, either, one, lacks, refuted, same, same!, less, less!, some-of, among}
 use Rattle.model.proofs.Words.{bit-zero, digit-less, number-less, number-same, is-number}
 use Rattle.bitsets.specs.Elements.{entriesOf, addingEntries, leadingTo}
-use Rattle.bitsets.proofs.Bits.{agree, refute, shifted-or}
+use Rattle.primitives.proofs.Shifts.{shifted-or}
+use Rattle.bitsets.proofs.Bits.{agree, refute}
 
 -- a word from its highest element down: the bits of word w from element k on
 unfoldable pub upper : (ℕ → Bool) → ℕ → ℕ → ℕ
-upper elements w k = number (64 * w + 64 - k) (λ b. elements (k + b))
+upper elements w k = fromBits (64 * w + 64 - k) (λ b. elements (k + b))
 
 module _ (elements : ℕ → Bool) (w : ℕ) where
   pub upper-none : (k : ℕ) → ((e : ℕ) → k ≤ e → e < 64 * w + 64 → elements e ≡ false) → 0 ≡ upper elements w k
@@ -33,7 +34,7 @@ module _ (elements : ℕ → Bool) (w : ℕ) where
 
   upper-next : (k r d : ℕ) → 64 * w < k → k ≤ 64 * w + 64 → r ≡ upper elements w k → d ≡ digit (elements (k - 1))
       → bitOr ((r * 2 ^ 1) % 2 ^ 64) d ≡ upper elements w (k - 1)
-  unfolding upper number
+  unfolding upper fromBits
   upper-next k r d low high q h =
       let more : 64 * w + 64 - (k - 1) ≡ suc (64 * w + 64 - k) = omega arith in
       let here : k - 1 ≡ k - 1 + 0 = omega arith in
@@ -41,7 +42,7 @@ module _ (elements : ℕ → Bool) (w : ℕ) where
       ∙ ap₂ (λ (x y : ℕ). x * 2 + y)
       (q ∙ number-same (64 * w + 64 - k) _ _ (λ b l. let e : k + b ≡ k - 1 + suc b = omega arith in ap elements e))
       (h ∙ ap (λ (e : ℕ). digit (elements e)) here)
-      ∙ ap (λ (n : ℕ). number n (λ b. elements (k - 1 + b))) (sym more)
+      ∙ ap (λ (n : ℕ). fromBits n (λ b. elements (k - 1 + b))) (sym more)
 
   -- two places at a time: n pairs are left
   pub upper-two : (n r d e : ℕ) → 0 < n → n ≤ 32 → r ≡ upper elements w (64 * w + 2 * n)
@@ -58,7 +59,7 @@ module _ (elements : ℕ → Bool) (w : ℕ) where
   unfolding upper word
   upper-all k q =
       let all : 64 * w + 64 - k ≡ 64 = omega arith in
-      ap (λ (n : ℕ). number n (λ b. elements (k + b))) all
+      ap (λ (n : ℕ). fromBits n (λ b. elements (k + b))) all
       ∙ number-same 64 _ _ (λ b l. let e : k + b ≡ w * 64 + b = omega arith in ap elements e)
 
 -- elements at or above the count lead nowhere

@@ -14,7 +14,7 @@ use Rattle.model.specs.Tests.{_and_, _or_, _==_, _<?_, pick}
 use Rattle.model.specs.Bytes.{byte, u16}
 use Rattle.model.specs.Nodes.{UNION, INTERSECTION, DIFFERENCE}
 use Rattle.model.specs.Partitions.{Partition}
-use Rattle.model.specs.Words.{bit, holds, number, word, store}
+use Rattle.model.specs.Words.{bit, holds, fromBits, word, store}
 use Rattle.model.proofs.Words.{bit-zero, bit-number, number-less, is-word, word-same, word-element, holds-bit, holds-kept, store-length, store-next, store-same, store-pieces}
 use Rattle.bitsets.specs.Elements.{upTo, wordAt, PieceOf, combination, combinedBits, combined, masked, listed, bytesBits, reversedBits, leadingTo, through}
 use Rattle.subregions.specs.Operators.{Holding, Targets, Operand, Preimage}
@@ -147,7 +147,7 @@ masked-bit words masks a w b l =
     ∙ and-swap _ _
 
 -- a word of two pieces combined
-pub combined-word : (words masks : List ℕ) (kind a b w x : ℕ) → x ≡ number 64 (combinedBits kind (getD words (a + w) 0) (getD words (b + w) 0))
+pub combined-word : (words masks : List ℕ) (kind a b w x : ℕ) → x ≡ fromBits 64 (combinedBits kind (getD words (a + w) 0) (getD words (b + w) 0))
     → bitAnd x (getD masks w 0) ≡ word (masked masks (combined kind (holds words a) (holds words b))) w
 unfolding combined combinedBits
 combined-word words masks kind a b w x h =
@@ -156,7 +156,7 @@ combined-word words masks kind a b w x h =
     ∙ ap₂ (combination kind) (sym (holds-bit words a w e l)) (sym (holds-bit words b w e l)))
 
 -- a word of eight bytes, each in reverse order
-pub listed-word : (masks members : List ℕ) (from w x y : ℕ) → x ≡ number 64 (bytesBits members (from + 8 * w)) → y ≡ number 64 (reversedBits x)
+pub listed-word : (masks members : List ℕ) (from w x y : ℕ) → x ≡ fromBits 64 (bytesBits members (from + 8 * w)) → y ≡ fromBits 64 (reversedBits x)
     → bitAnd y (getD masks w 0) ≡ word (masked masks (listed members from)) w
 unfolding bytesBits reversedBits listed
 listed-word masks members from w x y p q =

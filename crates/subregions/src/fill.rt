@@ -6,7 +6,7 @@ use crate::pieces::fill_preimage;
 use crate::pieces::fill_supplied;
 use primitives::bytes::byte_at;
 use primitives::bytes::u16_at;
-use primitives::lookup::number_at;
+use primitives::lookup::usize_at;
 ghost use Prim.Native.Nat.{_/_, _<_, _≤_};
 ghost use lib.ListN.{length};
 ghost use Rattle.subregions.specs.Fill.{NodeReady, NodeDone, SizeOfNode, SizesOfNodes, AllReady, AllDone};
@@ -29,10 +29,10 @@ pub fn fill_node(
     let kind = byte_at(nodes, j * 4);
     let a = byte_at(nodes, j * 4 + 1);
     let b = byte_at(nodes, j * 4 + 2);
-    let size = number_at(node_sizes, j);
-    let from = number_at(member_starts, a);
-    let start = number_at(entry_starts, b);
-    let operand_size = number_at(node_sizes, a);
+    let size = usize_at(node_sizes, j);
+    let from = usize_at(member_starts, a);
+    let start = usize_at(entry_starts, b);
+    let operand_size = usize_at(node_sizes, a);
     let at = j * pieces * 8;
     let left = a * pieces * 8;
     match kind {
@@ -64,7 +64,7 @@ fn node_size(
         1 => u16_at(sizes, 2 * a),
         5 => u16_at(sizes, 2 * byte_at(maps, b * 3 + 1)),
         6 => u16_at(sizes, 2 * byte_at(maps, b * 3)),
-        _ => number_at(earlier, a),
+        _ => usize_at(earlier, a),
     }
 }
 

@@ -10,7 +10,7 @@ ghost use mathlib.Core.Path.{_≡_};
 ghost use Prim.Native.Nat.{_+_, _*_, _≤_, _<_, min};
 ghost use lib.ListN.{length};
 ghost use Rattle.model.specs.Bytes.{u16};
-ghost use Rattle.model.specs.Words.{digit, holds, number, word, store};
+ghost use Rattle.model.specs.Words.{digit, holds, fromBits, word, store};
 ghost use Rattle.bitsets.specs.Elements.{between, masked, combined, listed, bytesBits, entriesOf, through, wordAt, PieceOf};
 ghost use Rattle.subregions.specs.Operators.{Writing, PieceBytes, Copying, Combining, AddingEntries, EntriesAdded, Image, Targets, Operand, Lookup, Preimage};
 
@@ -48,7 +48,7 @@ pub fn range_piece(low: usize, high: usize) -> [u64; 8]
 // Eight of a piece's bytes, which may all be known to be there.
 fn piece_bytes(members: &[u8], at: usize, inside: bool) -> u64
     requires { ⌜ PieceBytes (now members) at inside ⌝ }
-    ensures { λ r. ⌜ r ≡ number 64 (bytesBits (now (members .entry)) at) ⌝ }
+    ensures { λ r. ⌜ r ≡ fromBits 64 (bytesBits (now (members .entry)) at) ⌝ }
 {
     if inside {
         inside_bytes(members, at)

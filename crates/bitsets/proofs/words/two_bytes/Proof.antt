@@ -1,6 +1,6 @@
 -- The second byte shifted up, or the first. Assumes nothing.
 use native.Mathlib.Omega.{arith}
-use Rattle.bitsets.proofs.Bits.{shifted-or}
+use Rattle.primitives.proofs.Shifts.{shifted-or}
 use borrow.Author.Needs.{needs}
 use Rattle.bitsets.proofs.words.two_bytes.Statement.{statement}
 use Rattle.bitsets.proofs.words.two_bytes.Tie as tie

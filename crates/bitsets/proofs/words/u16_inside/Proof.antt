@@ -1,7 +1,7 @@
 -- The higher byte shifted up, or the lower one. Assumes nothing.
 use Prim.Native.Nat.{_+_}
 use native.Mathlib.Omega.{arith}
-use Rattle.bitsets.proofs.Bits.{shifted-or}
+use Rattle.primitives.proofs.Shifts.{shifted-or}
 use borrow.Author.Needs.{needs}
 use Rattle.bitsets.proofs.words.u16_inside.Statement.{statement}
 use Rattle.bitsets.proofs.words.u16_inside.Tie as tie

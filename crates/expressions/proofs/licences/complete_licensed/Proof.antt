@@ -18,9 +18,9 @@ returns c =
     let own = start .before .before .before .pre in
     λ steps known. let s = said known in
     rw (
-      s .p-complete (three .complete-number2 .ensures) (x .small-a),
-      s .q-subset (two .subset-number .ensures) (own .y) (own .x),
-      s .p-complete (one .complete-number .ensures) (own .y),
+      s .p-complete (three .complete-key2 .ensures) (x .small-a),
+      s .q-subset (two .subset-key .ensures) (own .y) (own .x),
+      s .p-complete (one .complete-key .ensures) (own .y),
       one .before .byte-at .ensures .0,
       node-is x,
     )

@@ -19,10 +19,10 @@ returns c =
     let own = start .before .before .pre in
     λ steps known. let s = said known in
     rw (
-      s .p-disjoint (four .disjoint-number3 .ensures) (x .small-b),
-      s .p-disjoint (three .disjoint-number2 .ensures) (x .small-a),
-      s .q-subset (two .subset-number .ensures) (own .x) (own .y),
-      s .p-disjoint (one .disjoint-number .ensures) (own .y),
+      s .p-disjoint (four .disjoint-key3 .ensures) (x .small-b),
+      s .p-disjoint (three .disjoint-key2 .ensures) (x .small-a),
+      s .q-subset (two .subset-key .ensures) (own .x) (own .y),
+      s .p-disjoint (one .disjoint-key .ensures) (own .y),
       node-is x,
     )
 

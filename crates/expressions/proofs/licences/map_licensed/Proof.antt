@@ -21,8 +21,8 @@ returns c =
     let middle = read .byte-at .ensures .1 in
     let s = said known in
     rw (
-      s .p-subset (two .subset-number2 .ensures) (x .small-a) middle,
-      s .p-subset (one .subset-number .ensures) (x .small-a) (y .small-a),
+      s .p-subset (two .subset-key2 .ensures) (x .small-a) middle,
+      s .p-subset (one .subset-key .ensures) (x .small-a) (y .small-a),
       node-is (last .node-at3 .ensures),
       read .byte-at .ensures .0,
       node-is y,

@@ -25,12 +25,12 @@ returns c =
     let middle = read .byte-at .ensures .1 in
     let s = said known in
     rw (
-      s .q-subset (six .subset-number6 .ensures) (own .x) (y .small-b),
-      s .p-subset (five .subset-number5 .ensures) (own .x) (y .small-a),
-      s .q-subset (four .subset-number4 .ensures) (x .small-b) (own .y),
-      s .p-subset (three .subset-number3 .ensures) (x .small-a) (own .y),
-      s .q-subset (two .subset-number2 .ensures) middle (own .y),
-      s .p-subset (one .subset-number .ensures) (own .x) middle,
+      s .q-subset (six .subset-key6 .ensures) (own .x) (y .small-b),
+      s .p-subset (five .subset-key5 .ensures) (own .x) (y .small-a),
+      s .q-subset (four .subset-key4 .ensures) (x .small-b) (own .y),
+      s .p-subset (three .subset-key3 .ensures) (x .small-a) (own .y),
+      s .q-subset (two .subset-key2 .ensures) middle (own .y),
+      s .p-subset (one .subset-key .ensures) (own .x) middle,
       read .byte-at .ensures .0,
       node-is y,
       node-is x,

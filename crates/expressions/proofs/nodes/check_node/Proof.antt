@@ -17,7 +17,7 @@ returns c =
     let read = start .read-node .ensures in
     let formed = sym (m .before .before .is-formed .ensures _ read) ∙ m .before .if1 .taken in
     let known = m .region-of .ensures _ _ _ (record { read = read; formed = formed; regions = turn .earlier .regions }) in
-    let number = number-is read (m .before .before .before .node-number .ensures) in
+    let key = number-is read (m .before .before .before .node-key .ensures) in
     let blank = sym (read .unused) ∙ formed-bounds _ read formed .0 in
     record {
       outcome =
@@ -25,14 +25,14 @@ returns c =
             c .and-then .ensures,
             c .before .require2 .ensures,
             c .before .before .is-among .ensures,
-            duplicate-known (turn .earlier) (λ i. start .before .before .before .shared-slice-known4 .given i .fits) blank number,
+            duplicate-known (turn .earlier) (λ i. start .before .before .before .shared-slice-known4 .given i .fits) blank key,
             c .before .before .before .require .ensures,
             known .agrees,
           )
           (sym (formed-check _ _ formed));
       region = λ h. known .region;
       small = known .small;
-      number = number;
+      key = key;
     }
 
 returns-2 : tie.Need-returns-2
@@ -42,7 +42,7 @@ returns-2 c =
       outcome = sym (unformed-check _ _ (sym (c .before .is-formed .ensures _ read) ∙ c .if1 .left));
       region = λ h. never h;
       small = search needs;
-      number = number-is read (c .before .before .node-number .ensures);
+      key = number-is read (c .before .before .node-key .ensures);
     }
 
 pub check-node-spec : {M : Type 1} → statement M

@@ -7,16 +7,16 @@ use Rattle.model.proofs.Recursion.{below-at}
 use Rattle.expressions.specs.Parts.{nodeParts}
 use Rattle.primitives.proofs.Filling.{none-filled}
 use Rattle.primitives.proofs.Scanning.{scanning-start, scanning-next, scanning-refused, scanning-end}
-use Rattle.expressions.proofs.NodeLaws.{Reading, next-earlier, numbered}
+use Rattle.expressions.proofs.NodeLaws.{Reading, next-earlier, keyed}
 use borrow.Author.Needs.{needs}
 use Rattle.expressions.proofs.nodes.check_nodes.Statement.{statement}
 use Rattle.expressions.proofs.nodes.check_nodes.Tie as tie
 
 abbrev Inv-loop : tie.InvT-loop
-Inv-loop regions maps supplied nodes count table₀ numbers₀ j₀ table numbers j = Reading (nodeParts regions maps supplied nodes) count table numbers j
+Inv-loop regions maps supplied nodes count table₀ keys₀ j₀ table keys j = Reading (nodeParts regions maps supplied nodes) count table keys j
 
 abbrev μ-loop : tie.MeasureT-loop
-μ-loop regions maps supplied nodes count table₀ numbers₀ j₀ table numbers j = count - j
+μ-loop regions maps supplied nodes count table₀ keys₀ j₀ table keys j = count - j
 
 loop-holds : tie.Need-loop-holds Inv-loop μ-loop
 loop-holds c =
@@ -25,7 +25,7 @@ loop-holds c =
       few = search needs;
       wide = search needs;
       room = search needs;
-      earlier = record { regions = none-filled _ 48; numbers = none-filled _ 48; unused = λ k lt. absurd (omega arith) };
+      earlier = record { regions = none-filled _ 48; keys = none-filled _ 48; unused = λ k lt. absurd (omega arith) };
       scanning = scanning-start _ _;
     }
 
@@ -40,7 +40,7 @@ returns c =
       outcome = scanning-refused (l .inv .scanning) (m .before .before .before .loop-test .taken) (m .check-node .ensures .outcome) (c .before .outcome .given .1);
       regions = λ h. never h;
       room = l .inv .room;
-      numbers = λ h. never h;
+      keys = λ h. never h;
     }
 
 loop-again : tie.Need-loop-again Inv-loop μ-loop
@@ -65,7 +65,7 @@ returns-2 c =
       outcome = scanning-end (l .inv .scanning) (c .loop-test .left);
       regions = λ h j lt. l .inv .earlier .regions j ∙ below-at 0 (l .j) _ j (omega arith);
       room = l .inv .room;
-      numbers = λ h j lt. numbered (l .inv .earlier) (λ i. c .before .before .shared-slice-known4 .given i .fits) j (omega arith);
+      keys = λ h j lt. keyed (l .inv .earlier) (λ i. c .before .before .shared-slice-known4 .given i .fits) j (omega arith);
     }
 
 pub check-nodes-spec : {M : Type 1} → statement M

@@ -10,10 +10,10 @@ use Rattle.expressions.proofs.nodes.is_among.Statement.{statement}
 use Rattle.expressions.proofs.nodes.is_among.Tie as tie
 
 abbrev Inv-loop : tie.InvT-loop
-Inv-loop numbers number j found₀ k₀ found k = (k ≤ j) × (found ≡ isAmong numbers number k)
+Inv-loop keys key j found₀ k₀ found k = (k ≤ j) × (found ≡ isAmong keys key k)
 
 abbrev μ-loop : tie.MeasureT-loop
-μ-loop numbers number j found₀ k₀ found k = j - k
+μ-loop keys key j found₀ k₀ found k = j - k
 
 loop-holds : tie.Need-loop-holds Inv-loop μ-loop
 unfolding any

@@ -30,7 +30,7 @@ check-step-requires : tie.Need-check-step-requires Inv-loop μ-loop
 check-step-requires c κs =
     let m = c .before .before in
     let l = m .before .before .before .before .loop in
-    next-turn (l .conclusions) (omega arith) (m .before .before .step-at .ensures) (m .before .lemma-row .ensures) (m .conclusion-number .ensures) (l .inv .known)
+    next-turn (l .conclusions) (omega arith) (m .before .before .step-at .ensures) (m .before .lemma-row .ensures) (m .conclusion-key .ensures) (l .inv .known)
 
 returns : tie.Need-returns Inv-loop μ-loop
 returns c =
@@ -48,7 +48,7 @@ loop-again c =
     let m = c .before .before .before .before .before in
     let start = m .before .before .before in
     let l = start .before .loop in
-    let turn = next-turn (l .conclusions) (omega arith) (m .before .before .step-at .ensures) (m .before .lemma-row .ensures) (m .conclusion-number .ensures) (l .inv .known) in
+    let turn = next-turn (l .conclusions) (omega arith) (m .before .before .step-at .ensures) (m .before .lemma-row .ensures) (m .conclusion-key .ensures) (l .inv .known) in
     record {
       counted = l .inv .counted;
       few = l .inv .few;

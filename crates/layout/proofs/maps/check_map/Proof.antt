@@ -7,12 +7,12 @@ use Rattle.layout.proofs.maps.check_map.Statement.{statement}
 
 returns : tie.Need-returns
 unfolding mapCheck _and_ _<?_ _≤?_
-returns c = λ P known. rw (known .regions-are, known .maps-are, c .require .ensures, c .before .byte-at3 .ensures .0, c .before .before .byte-at2 .ensures .0, c .before .before .before .byte-at .ensures .0)
+returns c =
+    λ P known.
+    let maps = known .maps-are in
+    rw (known .regions-are, c .require .ensures, c .before .map-totality .ensures .0 P maps, c .before .before .map-target .ensures .0 P maps, c .before .before .before .map-source .ensures .0 P maps)
 
 pub check-map-spec : {M : Type 1} → statement M
 check-map-spec =
     tie.close
-    (tie.spec
-    (λ c. search needs) (λ c κs. search needs) (λ c. search needs) (λ c. search needs) (λ c κs. search needs) (λ c. search needs)
-    (λ c. search needs) (λ c κs. search needs) (λ c. search needs) (λ c. search needs) (λ c κs. search needs)
-    returns)
+    (tie.spec (λ c κs. search needs) (λ c κs. search needs) (λ c κs. search needs) (λ c. search needs) (λ c. search needs) (λ c κs. search needs) returns)

@@ -7,12 +7,11 @@ use Rattle.layout.proofs.supplied.check_partition.Statement.{statement}
 
 returns : tie.Need-returns
 unfolding suppliedCheck _and_ _<?_ _≤?_
-returns c = λ P known. rw (known .regions-are, known .supplied-are, c .require .ensures, c .before .byte-at2 .ensures .0, c .before .before .byte-at .ensures .0)
+returns c =
+    λ P known.
+    let supplied = known .supplied-are in
+    rw (known .regions-are, c .require .ensures, c .before .supplied-flags .ensures .0 P supplied, c .before .before .supplied-region .ensures .0 P supplied)
 
 pub check-partition-spec : {M : Type 1} → statement M
 check-partition-spec =
-    tie.close
-    (tie.spec
-    (λ c. search needs) (λ c κs. search needs) (λ c. search needs) (λ c. search needs) (λ c κs. search needs) (λ c. search needs)
-    (λ c. search needs) (λ c κs. search needs)
-    returns)
+    tie.close (tie.spec (λ c κs. search needs) (λ c κs. search needs) (λ c. search needs) (λ c. search needs) (λ c κs. search needs) returns)

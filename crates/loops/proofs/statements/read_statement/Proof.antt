@@ -43,14 +43,14 @@ entered m =
     let tables = start .pre .tables in
     let o = operand-is (m .before .before .before .before .before .before) in
     enters _ _ (start .pre) o
-    (m .before .before .before .variable-region .ensures ∙ (region-at-from R M S s _ ∙ region-value (loopParts R M S) s _ _ _ (tables .regions-are) o (m .before .before .before .before .earlier-number .ensures .0)))
+    (m .before .before .before .variable-region .ensures ∙ (region-at-from R M S s _ ∙ region-value (loopParts R M S) s _ _ _ (tables .regions-are) o (m .before .before .before .before .earlier-byte .ensures .0)))
     (m .is-centered .ensures ∙ (centered-at-from R M S s _ ∙ centered-value (loopParts R M S) s _ _ _ (tables .centers-are) o (m .before .earlier-flag .ensures)))
 
 cast-copied-region : tie.Need-cast-copied-region
-cast-copied-region c = record { fits = c .earlier-number .ensures .1 (omega arith) }
+cast-copied-region c = record { fits = c .earlier-byte .ensures .1 (omega arith) }
 
-element-copy-out-number-of : tie.Need-element-copy-out-number-of
-element-copy-out-number-of c = omega (arith, operand-earlier (c .before .before .before .before .before .before), c .before .before .before .before .before .before .before .before .before .before .before .pre .few)
+element-copy-out-usize-of : tie.Need-element-copy-out-usize-of
+element-copy-out-usize-of c = omega (arith, operand-earlier (c .before .before .before .before .before .before), c .before .before .before .before .before .before .before .before .before .before .before .pre .few)
 
 check-statement-requires : tie.Need-check-statement-requires
 check-statement-requires c κs =
@@ -60,7 +60,7 @@ check-statement-requires c κs =
       variables-are = start .pre .tracks .count-is;
       operand = record {
         few = start .pre .few;
-        region-is = c .number-of .ensures .0 ∙ (entered (c .before .before) .regions-are .holds _ (later (operand-earlier m)) ∙ ap (variableRegion _) (operand-is m));
+        region-is = c .usize-of .ensures .0 ∙ (entered (c .before .before) .regions-are .holds _ (later (operand-earlier m)) ∙ ap (variableRegion _) (operand-is m));
       };
     }
 
@@ -74,7 +74,7 @@ read-statement-spec =
     (λ c κs. search needs) (λ c κs. search needs) (λ c. search needs) (λ c. search needs) (λ c κs. search needs)
     cast-copied-region
     (λ c κs. search needs) (λ c. search needs) (λ c κs. search needs) (λ c κs. search needs) (λ c. search needs)
-    element-copy-out-number-of
+    element-copy-out-usize-of
     (λ c κs. search needs)
     check-statement-requires
     returns)

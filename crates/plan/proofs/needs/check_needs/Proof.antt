@@ -11,7 +11,7 @@ use Rattle.plan.proofs.needs.check_needs.Tie as tie
 
 returns : tie.Need-returns
 returns c =
-    λ P known. let few : nodeCount P ≤ 48 = omega (arith, c .before .before .before .before .before .before .before .before .before .before .pre .few-nodes, known .sources .bounds .numbered .count-is) in
+    λ P known. let few : nodeCount P ≤ 48 = omega (arith, c .before .before .before .before .before .before .before .before .before .before .pre .few-nodes, known .sources .bounds .keyed .count-is) in
     c .settle .ensures ∙ rw (count-of-plan P (known .sources .pointers .section), known .steps-are) (all-settled P (known .concluded) few (c .before .before .before .list-needs .ensures .1 P (known .sources)))
 
 pub check-needs-spec : {M : Type 1} → statement M

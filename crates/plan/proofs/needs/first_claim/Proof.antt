@@ -18,7 +18,7 @@ access-is m = rw (m .is-access .ensures, m .before .access-of .ensures)
 
 returns : tie.Need-returns
 unfolding firstClaim pick
-returns c = rw (sym (c .before .before .opens-loop .ensures) ∙ c .before .if1 .taken) (c .complete-number .ensures)
+returns c = rw (sym (c .before .before .opens-loop .ensures) ∙ c .before .if1 .taken) (c .complete-key .ensures)
 
 returns-2 : tie.Need-returns-2
 unfolding firstClaim pick
@@ -28,15 +28,15 @@ returns-3 : tie.Need-returns-3
 unfolding firstClaim pick _<?_
 returns-3 c =
     rw (no-loop (c .before .before .before .before .before), access-is (c .before .before .before) ∙ not-false _ (c .before .before .if2 .left), lt-ltb _ _ (c .before .if3 .taken))
-    (c .subset-number .ensures)
+    (c .subset-key .ensures)
 
 returns-4 : tie.Need-returns-4
 unfolding firstClaim pick _<?_
 returns-4 c =
     rw (no-loop (c .before .before .before .before), access-is (c .before .before) ∙ not-false _ (c .before .if2 .left), le-ltb _ _ (c .if3 .left))
 
-subset-number-requires : tie.Need-subset-number-requires
-subset-number-requires c κs =
+subset-key-requires : tie.Need-subset-key-requires
+subset-key-requires c κs =
     let parts = c .before .before .before .before .before .before .pre in
     let below = c .if3 .taken in
     let few = parts .few-nodes in
@@ -50,6 +50,6 @@ first-claim-spec =
     returns
     (λ c κs. search needs) (λ c κs. search needs)
     returns-2
-    subset-number-requires
+    subset-key-requires
     returns-3
     returns-4)

@@ -5,7 +5,7 @@ use Rattle.model.specs.Tests.{first, _==_}
 use Rattle.model.specs.Layout.{Plan}
 use Rattle.model.specs.Needs.{imageNode}
 use Rattle.model.proofs.Tests.{same!, first-start, first-next, first-stop, first-end}
-use Rattle.plan.specs.Needs.{NodesNumbered}
+use Rattle.plan.specs.Needs.{NodesKeyed}
 use Rattle.plan.proofs.Bounds.{isImage, image-told}
 use borrow.Author.Needs.{needs}
 use borrow.Author.Tests.{ne-eqb}
@@ -13,11 +13,11 @@ use Rattle.plan.proofs.needs.image_node.Statement.{statement}
 use Rattle.plan.proofs.needs.image_node.Tie as tie
 
 abbrev Inv-loop : tie.InvT-loop
-Inv-loop numbers nodes node map wanted j₀ j =
-    (j ≤ nodes) × ((P : Plan) → NodesNumbered P numbers nodes → first (isImage P node map) j (nodes - j) ≡ imageNode P node map)
+Inv-loop keys nodes node map wanted j₀ j =
+    (j ≤ nodes) × ((P : Plan) → NodesKeyed P keys nodes → first (isImage P node map) j (nodes - j) ≡ imageNode P node map)
 
 abbrev μ-loop : tie.MeasureT-loop
-μ-loop numbers nodes node map wanted j₀ j = nodes - j
+μ-loop keys nodes node map wanted j₀ j = nodes - j
 
 loop-holds : tie.Need-loop-holds Inv-loop μ-loop
 unfolding imageNode
@@ -26,7 +26,7 @@ loop-holds c = (search needs, λ P known. rw (known .count-is) (first-start _ _)
 returns : tie.Need-returns Inv-loop μ-loop
 returns c =
     let l = c .before .before .before .loop in (
-      (λ P known. sym (first-stop _ _ (l .j) (c .before .before .loop-test .taken) (image-told P (l .j) known (c .before .before .before .before .before .pre) (c .before .before .loop-test .taken) (c .before .before .before .before .node-number .ensures) (same! (c .if1 .taken)))) ∙ l .inv .1 P known),
+      (λ P known. sym (first-stop _ _ (l .j) (c .before .before .loop-test .taken) (image-told P (l .j) known (c .before .before .before .before .before .pre) (c .before .before .loop-test .taken) (c .before .before .before .before .node-key .ensures) (same! (c .if1 .taken)))) ∙ l .inv .1 P known),
       l .inv .0,
     )
 
@@ -35,7 +35,7 @@ unfolding _==_
 loop-again c =
     let l = c .before .before .before .loop in (
       search needs,
-      λ P known. sym (first-next _ _ (l .j) (c .before .before .loop-test .taken) (image-told P (l .j) known (c .before .before .before .before .before .pre) (c .before .before .loop-test .taken) (c .before .before .before .before .node-number .ensures) (ne-eqb _ _ (c .if1 .left)))) ∙ l .inv .1 P known,
+      λ P known. sym (first-next _ _ (l .j) (c .before .before .loop-test .taken) (image-told P (l .j) known (c .before .before .before .before .before .pre) (c .before .before .loop-test .taken) (c .before .before .before .before .node-key .ensures) (ne-eqb _ _ (c .if1 .left)))) ∙ l .inv .1 P known,
     )
 
 returns-2 : tie.Need-returns-2 Inv-loop μ-loop

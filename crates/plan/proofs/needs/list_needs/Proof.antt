@@ -13,12 +13,12 @@ use Rattle.plan.proofs.needs.list_needs.Statement.{statement}
 use Rattle.plan.proofs.needs.list_needs.Tie as tie
 
 abbrev Inv-loop : tie.InvT-loop
-Inv-loop statements assignments operands centered numbers nodes claims₀ symbols₀ bounds₀ symbol₀ s₀ claims symbols bounds symbol s =
+Inv-loop statements assignments operands centered keys nodes claims₀ symbols₀ bounds₀ symbol₀ s₀ claims symbols bounds symbol s =
     Turn statements s symbol bounds claims symbols
-    × ((P : Plan) → NeedSources P statements assignments operands centered numbers nodes → Listing P s symbol bounds claims symbols)
+    × ((P : Plan) → NeedSources P statements assignments operands centered keys nodes → Listing P s symbol bounds claims symbols)
 
 abbrev μ-loop : tie.MeasureT-loop
-μ-loop statements assignments operands centered numbers nodes claims₀ symbols₀ bounds₀ symbol₀ s₀ claims symbols bounds symbol s =
+μ-loop statements assignments operands centered keys nodes claims₀ symbols₀ bounds₀ symbol₀ s₀ claims symbols bounds symbol s =
     length statements / 4 - s
 
 -- src/needs.rt:181:5
@@ -34,15 +34,15 @@ byte-at-requires-2 : tie.Need-byte-at-requires-2 Inv-loop μ-loop
 byte-at-requires-2 c κs = search auto
 
 -- src/needs.rt:184:13
-earlier-number-requires : tie.Need-earlier-number-requires Inv-loop μ-loop
-earlier-number-requires c κs = search auto
+earlier-byte-requires : tie.Need-earlier-byte-requires Inv-loop μ-loop
+earlier-byte-requires c κs = search auto
 
 -- src/needs.rt:185:13
 variable-bound-requires : tie.Need-variable-bound-requires Inv-loop μ-loop
 variable-bound-requires c κs =
     let fit = c .before .before .before .before .before .before .before .before .before .before .pre in
     let few = fit .few-nodes in
-    let small = c .earlier-number .ensures .1 (omega arith) in
+    let small = c .earlier-byte .ensures .1 (omega arith) in
     search auto
 
 -- src/needs.rt:186:21
@@ -140,7 +140,7 @@ loop-again c =
         symbols-room = let room = l .inv .0 .symbols-room in search auto;
       },
       λ P known. let listing = l .inv .1 P known in
-          listing-next known _ few (turn .loop-test .taken) listing (c .before .before .before .before .before .before .before .before .before .before .byte-at2 .ensures .0) (c .before .before .before .before .before .before .before .before .earlier-number .ensures .0)
+          listing-next known _ few (turn .loop-test .taken) listing (c .before .before .before .before .before .before .before .before .before .before .byte-at2 .ensures .0) (c .before .before .before .before .before .before .before .before .earlier-byte .ensures .0)
           (c .before .before .before .before .before .before .before .variable-bound .ensures .0 P (known .bounds) (listing .number-is))
           (c .before .before .before .before .before .before .before .before .before .before .before .byte-at .ensures .0) (c .before .before .before .before .before .before .before .before .before .before .before .byte-at .ensures .1) (c .before .before .before .before .before .byte-at3 .ensures .0) (c .before .before .before .before .kind-at .ensures)
           (c .before .before .before .first-claim .ensures) (c .before .before .needs-disjoint .ensures P (known .pointers)) (c .before .second-claim .ensures) refl
@@ -165,7 +165,7 @@ list-needs-spec =
     loop-holds
     byte-at-requires
     byte-at-requires-2
-    earlier-number-requires
+    earlier-byte-requires
     variable-bound-requires
     cast-bounds
     array-write-bounds

@@ -12,5 +12,5 @@ second-claim-spec =
     tie.close
     (tie.spec
     (λ c κs. search needs)
-    (λ c. c .disjoint-number .ensures ∙ sym (pick-true _ _ _ (c .before .if1 .taken)))
+    (λ c. c .disjoint-key .ensures ∙ sym (pick-true _ _ _ (c .before .if1 .taken)))
     (λ c. sym (pick-false _ _ _ (c .if1 .left))))

@@ -27,7 +27,7 @@ returns-4 c = λ P D S lt table. preimage-size S lt (read (c .before .before .be
 returns-5 : tie.Need-returns-5
 returns-5 c =
     let m = c .before .match .rest in
-    λ P D S lt table. combined-size S lt (read (c .before .before) (S .nodes-are)) (c .before .before .before .before .before .before .before .before .before .before .args .earlier .now) (m .0 .0 .0 .1) (m .0 .0 .1) (m .0 .1) (m .1) table (c .number-at .ensures)
+    λ P D S lt table. combined-size S lt (read (c .before .before) (S .nodes-are)) (c .before .before .before .before .before .before .before .before .before .before .args .earlier .now) (m .0 .0 .0 .1) (m .0 .0 .1) (m .0 .1) (m .1) table (c .usize-at .ensures)
 
 pub node-size-spec : {M : Type 1} → statement M
 node-size-spec =
