@@ -2,15 +2,15 @@
 use Prim.Native.Nat.{ℕ, zero, suc, _+_, _-_, _*_, _/_, _%_, _^_, _<_, min, max}
 use mathlib.Core.Path.{_≡_, refl, sym, ap, _∙_}
 use mathlib.Core.Bool.{Bool, true, false}
-use native.Mathlib.Nat.{pow-suc, mod-lt, one-mul}
+use native.Mathlib.Nat.{pow-suc, one-mul}
 use native.Mathlib.Omega.{arith}
 use lib.Arith.{digits-mod}
-use lib.Bits.{bitAnd, bitOr, and-step, or-step, and-shr, or-shr, and-mask, shifted-half, shifted-even}
+use lib.Bits.{bitAnd, bitOr, and-step, or-step, and-shr, or-shr, shifted-half, shifted-even}
 use lib.Pow.{shr-shr, shl-shr, pow-pos, shl-exact, field, mod-mod-pow, low, high}
 use Rattle.model.specs.Tests.{Is, _and_, _or_, non, _==_, _<?_}
-use Rattle.model.specs.Words.{bit, digit}
+use Rattle.model.specs.Words.{bit}
 use Rattle.model.proofs.Tests.{same, same!, less, less! }
-use Rattle.model.proofs.Words.{bit-first, bit-next, bit-zero, digit-test}
+use Rattle.model.proofs.Words.{bit-first, bit-next, bit-zero}
 
 -- two tests that pass together are equal
 pub agree : {a b : Bool} → (Is a → Is b) → (Is b → Is a) → a ≡ b
@@ -181,8 +181,3 @@ bit-ones (suc m) (suc b) =
 -- what `1 << m` gives
 pub one-shifted : (m : ℕ) → m < 64 → (1 * 2 ^ m) % 2 ^ 64 ≡ 2 ^ m
 one-shifted m h = shl-exact 1 m 64 (omega arith) (omega arith) ∙ one-mul (2 ^ m)
-
--- a word's bit taken out by a shift and a mask of one bit
-pub bit-taken : (w e : ℕ) → bitAnd (w / 2 ^ e) 1 ≡ digit (bit w e)
-unfolding bit
-bit-taken w e = and-mask (w / 2 ^ e) 1 ∙ sym (digit-test (w / 2 ^ e % 2) (mod-lt (w / 2 ^ e) (omega arith)))

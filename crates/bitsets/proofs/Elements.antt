@@ -11,12 +11,12 @@ use lib.ListN.{length, getD, set}
 use lib.Seq.{getD-set-same, getD-set-other}
 use native.Mathlib.Nat.{zero-add}
 use Rattle.model.specs.Tests.{_and_, _or_, non, _==_}
-use Rattle.model.specs.Words.{bit, digit, holds, fromBits, word}
-use Rattle.model.specs.Nodes.{UNION, INTERSECTION}
-use Rattle.model.proofs.Tests.{both, pair, lacks, refuted, same, same!, less, less!, most, most!, pick-true, pick-false}
+use Rattle.model.specs.Words.{bit, holds, fromBits, word}
+use Rattle.bitsets.specs.declared.words.SetOperator.the-variants.{Union, Intersection, Difference}
+use Rattle.model.proofs.Tests.{both, pair, lacks, refuted, same, same!, less, less!, most, most! }
 use Rattle.model.proofs.Words.{bit-zero, is-number, is-word, word-less, bit-word}
 use Rattle.bitsets.specs.Elements.{upTo, between, combination, combinedBits, PieceOf, wordAt}
-use Rattle.bitsets.proofs.Bits.{agree, refute, or-false, bit-and, bit-or, bit-not, bit-power, bit-ones, one-shifted, bit-taken}
+use Rattle.bitsets.proofs.Bits.{agree, refute, or-false, bit-and, bit-or, bit-not, bit-power, bit-ones, one-shifted}
 
 -- the elements below a number: none of a word, all of it, or the lowest of it
 pub below-none : (count w : ℕ) → count ≤ 64 * w → 0 ≡ word (upTo count) w
@@ -57,28 +57,20 @@ unfolding between
 between-none low high e h = refute (λ t. h (most (both t .0)) (less (both t .1)))
 
 -- one word of a union, an intersection, a difference
-module _ (kind x y : ℕ) (hx : x < 2 ^ 64) (hy : y < 2 ^ 64) where
-  pub union-word : kind ≡ UNION → (bitOr x y) ≡ fromBits 64 (combinedBits kind x y)
+module _ (x y : ℕ) (hx : x < 2 ^ 64) (hy : y < 2 ^ 64) where
+  pub union-word : bitOr x y ≡ fromBits 64 (combinedBits Union x y)
   unfolding combinedBits combination
-  union-word h = is-number 64 _ _ (or-lt 64 x y hx hy) (λ b l. bit-or x y b ∙ sym (pick-true _ _ _ (same! h)))
+  union-word = is-number 64 _ _ (or-lt 64 x y hx hy) (λ b l. bit-or x y b)
 
-  pub intersection-word : (kind ≡ UNION → ⊥) → kind ≡ INTERSECTION → (bitAnd x y) ≡ fromBits 64 (combinedBits kind x y)
+  pub intersection-word : bitAnd x y ≡ fromBits 64 (combinedBits Intersection x y)
   unfolding combinedBits combination
-  intersection-word n h =
-      is-number 64 _ _ (and-lt 64 x y hx hy)
-      (λ b l. bit-and x y b ∙ sym (pick-false _ _ _ (refute (λ t. n (same t))) ∙ pick-true _ _ _ (same! h)))
+  intersection-word = is-number 64 _ _ (and-lt 64 x y hx hy) (λ b l. bit-and x y b)
 
-  pub difference-word : (kind ≡ UNION → ⊥) → (kind ≡ INTERSECTION → ⊥) → (bitAnd x ((2 ^ 64 - 1) - y)) ≡ fromBits 64 (combinedBits kind x y)
+  pub difference-word : bitAnd x ((2 ^ 64 - 1) - y) ≡ fromBits 64 (combinedBits Difference x y)
   unfolding combinedBits combination
-  difference-word n m =
+  difference-word =
       is-number 64 _ _ (and-lt 64 x ((2 ^ 64 - 1) - y) hx (omega arith))
-      (λ b l. bit-and x _ b ∙ ap (λ (t : Bool). bit x b and t) (bit-not 64 y b hy l)
-      ∙ sym (pick-false _ _ _ (refute (λ t. n (same t))) ∙ pick-false _ _ _ (refute (λ t. m (same t)))))
-
--- an element tested
-pub tested : (words : List ℕ) (e : ℕ) → bitAnd (getD words (e / 64) 0 / 2 ^ (e % 64)) 1 ≡ digit (holds words 0 e)
-unfolding holds
-tested words e = let here : 0 + e / 64 ≡ e / 64 = omega arith in rw here (bit-taken (getD words (e / 64) 0) (e % 64))
+      (λ b l. bit-and x _ b ∙ ap (λ (t : Bool). bit x b and t) (bit-not 64 y b hy l))
 
 -- a word of no element
 pub empty-word : (elements : ℕ → Bool) (w : ℕ) → ((e : ℕ) → 64 * w ≤ e → e < 64 * w + 64 → elements e ≡ false) → 0 ≡ word elements w

@@ -1,4 +1,3 @@
 pub mod Bits
 pub mod ByteOrder
 pub mod Elements
-pub mod Tables

@@ -6,8 +6,9 @@ use lib.ListN.{length, getD}
 use mathlib.Core.Bool.{Bool}
 use Rattle.model.specs.Tests.{Is, _and_, _or_, non, any, pick, _==_, _<?_, _≤?_}
 use Rattle.model.specs.Bytes.{Bytes, byte, u16}
-use Rattle.model.specs.Nodes.{UNION, INTERSECTION}
 use Rattle.model.specs.Words.{bit, holds, word}
+use Rattle.bitsets.specs.declared.words.SetOperator.{SetOperator}
+use Rattle.bitsets.specs.declared.words.SetOperator.the-variants.{Union, Intersection, Difference}
 
 -- the elements below n
 unfoldable pub upTo : ℕ → ℕ → Bool
@@ -17,13 +18,15 @@ upTo n e = e <? n
 unfoldable pub between : ℕ → ℕ → ℕ → Bool
 between low high e = low ≤? e and e <? high
 
--- one element of a union, an intersection or, for any other kind, a difference
-unfoldable pub combination : ℕ → Bool → Bool → Bool
-combination kind s t = pick (kind == UNION) (s or t) (pick (kind == INTERSECTION) (s and t) (s and non t))
+-- one element of a union, an intersection or a difference
+unfoldable pub combination : SetOperator → Bool → Bool → Bool
+combination Union s t = s or t
+combination Intersection s t = s and t
+combination Difference s t = s and non t
 
 -- the bits of two words combined
-unfoldable pub combinedBits : ℕ → ℕ → ℕ → ℕ → Bool
-combinedBits kind x y b = combination kind (bit x b) (bit y b)
+unfoldable pub combinedBits : SetOperator → ℕ → ℕ → ℕ → Bool
+combinedBits operator x y b = combination operator (bit x b) (bit y b)
 
 -- two bytes as a number, the first lower
 abbrev pub twoBytes : Bytes → ℕ → ℕ
@@ -63,13 +66,13 @@ pub record PieceOf (elements : ℕ → Bool) (piece : List ℕ) : Type 0 where
 unfoldable pub masked : List ℕ → (ℕ → Bool) → ℕ → Bool
 masked masks elements e = holds masks 0 e and elements e
 
--- a union, an intersection or, for any other kind, a difference
-unfoldable pub combined : ℕ → (ℕ → Bool) → (ℕ → Bool) → ℕ → Bool
-combined kind A B e = combination kind (A e) (B e)
+-- a union, an intersection or a difference
+unfoldable pub combined : SetOperator → (ℕ → Bool) → (ℕ → Bool) → ℕ → Bool
+combined operator A B e = combination operator (A e) (B e)
 
 -- the bytes of a piece, "one bit per element from element 0, highest bit first"
-unfoldable pub listed : Bytes → ℕ → ℕ → Bool
-listed members at e = bit (byte members (at + e / 8)) (7 - e % 8)
+unfoldable pub suppliedElements : Bytes → ℕ → ℕ → Bool
+suppliedElements members at e = bit (byte members (at + e / 8)) (7 - e % 8)
 
 -- the entries of the first n elements of a set
 unfoldable pub entriesOf : ℕ → Bytes → ℕ → (ℕ → Bool) → ℕ → Bool

@@ -1,11 +1,12 @@
 // Sets of elements in words: masks, words combined, and the words that bytes make.
 use primitives::bytes::byte_at;
 ghost use mathlib.Core.Path.{_≡_};
-ghost use Prim.Native.Nat.{_+_, _^_, _≤_, _<_};
+ghost use Prim.Native.Nat.{_+_, _/_, _^_, _≤_, _<_};
 ghost use lib.Count.{trailingZeros};
 ghost use lib.ListN.{length};
 ghost use Rattle.model.specs.Bytes.{u16};
-ghost use Rattle.model.specs.Words.{fromBits, word};
+ghost use Rattle.model.specs.Words as Words;
+ghost use Rattle.model.specs.Words.{digit, fromBits, word};
 ghost use Rattle.bitsets.specs.Elements.{upTo, between, combinedBits, twoBytes, bytesBits, exchangedBits, LowerPlaces, reversedBits, PieceOf};
 
 // Word w of the elements below a number.
@@ -31,16 +32,21 @@ pub fn word_between(low: usize, high: usize, w: usize) -> u64
     word_below(high, w) & !word_below(low, w)
 }
 
-// One word of a union (kind 2), an intersection (3) or a difference (4).
-pub fn combine(kind: usize, x: u64, y: u64) -> u64
-    ensures { λ r. ⌜ r ≡ fromBits 64 (combinedBits kind x y) ⌝ }
+// The operators on two sets.
+pub enum SetOperator {
+    Union,
+    Intersection,
+    Difference,
+}
+
+// One word of a union, an intersection or a difference.
+pub fn combine(operator: SetOperator, x: u64, y: u64) -> u64
+    ensures { λ r. ⌜ r ≡ fromBits 64 (combinedBits operator x y) ⌝ }
 {
-    if kind == 2 {
-        x | y
-    } else if kind == 3 {
-        x & y
-    } else {
-        x & !y
+    match operator {
+        SetOperator::Union => x | y,
+        SetOperator::Intersection => x & y,
+        SetOperator::Difference => x & !y,
     }
 }
 
@@ -134,6 +140,22 @@ pub fn reverse_bytes(x: u64) -> u64
     let y = exchange(x, 0x5555_5555_5555_5555, 1);
     let z = exchange(y, 0x3333_3333_3333_3333, 2);
     exchange(z, 0x0F0F_0F0F_0F0F_0F0F, 4)
+}
+
+// Whether the set whose words stand from `at` on holds an element: 1 or 0, for loops that gather bits.
+pub fn bit_of(words: &[u64], at: usize, element: usize) -> u64
+    requires { ⌜ at + element / 64 < length (now words) ⌝ }
+    ensures { λ r. ⌜ r ≡ digit (Words.holds (now (words .entry)) at element) ⌝ }
+{
+    (words[at + element / 64] >> (element % 64)) & 1
+}
+
+// The same as a truth value.
+pub fn holds(words: &[u64], at: usize, element: usize) -> bool
+    requires { ⌜ at + element / 64 < length (now words) ⌝ }
+    ensures { λ r. ⌜ r ≡ Words.holds (now (words .entry)) at element ⌝ }
+{
+    bit_of(words, at, element) == 1
 }
 
 // The place of a word's lowest member; 64 where it has none.

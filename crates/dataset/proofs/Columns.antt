@@ -85,9 +85,9 @@ module _ (P : Plan) (D : DataSet) (k : ℕ) where
       bit-number 64 _ b l ∙ bit-repeated (words c) (pieces D) (b / 8 * 8 + (7 - b % 8))
       ∙ ap (any (pieces D)) (fun-ext (λ i. ap₂ _and_ (ap (any i) (fun-ext (λ j. bit-element c b j l))) (bit-element c b i l)))
 
-  held : (i e : ℕ) → Is (supplied P D k i e) → Is (suppliedBit P D k i e)
+  bit-of-supplied : (i e : ℕ) → Is (supplied P D k i e) → Is (suppliedBit P D k i e)
   unfolding supplied
-  held i e h = both (both h .1) .1
+  bit-of-supplied i e h = both (both h .1) .1
 
   -- where the flags are kept, each column keeps them
   module _ (right : DeclarationsHold P D k) where
@@ -110,7 +110,7 @@ module _ (P : Plan) (D : DataSet) (k : ℕ) where
         bits-decide 64 _ _ (and-lt 64 _ _ (number-less 64 _) (word-less _ c)) (word-less _ c) (λ b lb.
         agree (λ h. both (sym (bit-and (seen c) _ b) ∙ h) .1) (λ h.
         let w = right .complete (which declared) (c * 64 + b) (less (sym (bit-word (upTo elements) c b lb) ∙ h)) in
-        bit-and _ _ b ∙ pair (bit-seen c b lb ∙ among (w .0, w .1, held (w .0) (c * 64 + b) (w .2))) h))
+        bit-and _ _ b ∙ pair (bit-seen c b lb ∙ among (w .0, w .1, bit-of-supplied (w .0) (c * 64 + b) (w .2))) h))
 
     column-padded : (c : ℕ) → bitAnd (seen c) (word (between elements (8 * ((elements + 7) / 8))) c) ≡ 0
     unfolding between pieceBytes
@@ -142,7 +142,7 @@ module _ (P : Plan) (D : DataSet) (k : ℕ) where
         none-set _ (same (implied (both (at-column e (omega arith)) .0) declared)) (e % 64)
         (bit-and _ _ (e % 64)
         ∙ pair
-        (bit-twice (e / 64) (e % 64) (omega arith) ∙ rw at-place (among (i, less (both a .0), pair (among (j, lt, held j e b)) (held i e a))))
+        (bit-twice (e / 64) (e % 64) (omega arith) ∙ rw at-place (among (i, less (both a .0), pair (among (j, lt, bit-of-supplied j e b)) (bit-of-supplied i e a))))
         (bit-word (upTo elements) (e / 64) (e % 64) (omega arith) ∙ rw at-place le))
 
     not-missing : Is complete → (e : ℕ) → e < elements → (i : ℕ) × (i < pieces D) × Is (supplied P D k i e)

@@ -1,21 +1,25 @@
--- The two halves of the test of a data set's frame are the whole, and what the first half gives: bodies that lie within the bytes. Assumes nothing.
+-- The two halves of the test of a data set's frame are the whole, and what they give: sections within the bytes, entries and members placed. Assumes nothing.
 use Prim.Native.Nat.{ℕ, zero, suc, _+_, _*_, _≤_, _<_}
-use mathlib.Core.Path.{_≡_}
-use mathlib.Core.Bool.{Bool}
+use mathlib.Core.Path.{_≡_, sym, _∙_}
+use mathlib.Core.Bool.{false}
 use native.Mathlib.Decide.{decLe, decLt}
 use native.Mathlib.Omega.{arith}
 use lib.ListN.{getD, length, List·getD-eq-default}
 use Rattle.model.specs.Tests.{Is, _and_}
-use Rattle.model.specs.Bytes.{Bytes, u16, boundary, body}
+use Rattle.model.specs.Bytes.{Bytes, u16, boundary}
+use Rattle.model.specs.Outcomes.{require}
 use Rattle.model.specs.Layout.{Plan, mapCount, suppliedCount}
-use Rattle.model.specs.DataSets.{dataOf, size, entryStart, memberStart, wellFramed}
-use Rattle.model.proofs.Tests.{both, pair, same, every-of, most! }
+use Rattle.model.specs.DataSets.{DataSet, dataOf, pieces, size, entryStart, memberStart, wellFramed}
+use Rattle.model.specs.declared.Outcome.the-variants.{Pass, Refuse}
+use Rattle.model.specs.declared.Refusal.the-variants.{InvalidData}
+use Rattle.model.proofs.Tests.{both, pair, same, every-of, every-at, most, most! }
+use Rattle.model.proofs.Outcomes.{never, require-pass}
 use Rattle.primitives.specs.declared.sections.Frame.{Frame}
 use Rattle.primitives.specs.Sections.{frameOf, Delimits}
 use Rattle.primitives.proofs.Bodies.{boundary-next, frame-at}
-use Rattle.dataset.specs.DataParts.{dataParts}
-use Rattle.dataset.specs.Framing.{laidOut, lengthsRight}
 use Rattle.bitsets.proofs.Bits.{agree}
+use Rattle.dataset.specs.Layout.{DATA-SECTIONS, laidOut, lengthsRight, sectionsRight, SectionsPlaced, DataPlaced, LayoutRead}
+use Rattle.dataset.specs.declared.layout.DataLayout.{DataLayout}
 
 -- what does not fall at a step does not fall
 pub grows : (f : ℕ → ℕ) → ((k : ℕ) → f k ≤ f (suc k)) → (n m : ℕ) → n ≤ m → f n ≤ f m
@@ -30,58 +34,86 @@ pub boundary-grows : (d : Bytes) (n m : ℕ) → n ≤ m → boundary d n ≤ bo
 boundary-grows d = grows (boundary d) (λ k. omega (arith, boundary-next d k))
 
 -- each section ends within the bytes where the last one does
-module _ (d : Bytes) (e : length d ≡ boundary d 4) where
-  section-ends : (n : ℕ) → n < 4 → (boundary d n + 2 ≤ length d) × (boundary d (suc n) ≤ length d)
+module _ (d : Bytes) (e : length d ≡ boundary d DATA-SECTIONS) where
+  section-ends : (n : ℕ) → n < DATA-SECTIONS → (boundary d n + 2 ≤ length d) × (boundary d (suc n) ≤ length d)
   section-ends n lt =
       let a : boundary d n + 2 ≤ boundary d (suc n) = omega (arith, boundary-next d n) in
-      let b = boundary-grows d (suc n) 4 (omega arith) in
+      let b = boundary-grows d (suc n) DATA-SECTIONS (omega arith) in
       (omega arith, omega arith)
 
   some-bytes : 1 ≤ length d
   some-bytes = omega (arith, section-ends 0 (omega arith))
 
-module _ (P : Plan) (d : Bytes) where
-  unfoldable pub section-lengths-right : Bool
-  section-lengths-right =
-      lengthsRight (P .regions) (dataOf d) (entryStart P (dataOf d) (mapCount P)) (memberStart P (dataOf d) (suppliedCount P))
-
-  pub framed-is : wellFramed P d ≡ laidOut d and section-lengths-right
-  unfolding wellFramed laidOut lengthsRight section-lengths-right size
-  framed-is =
-      agree (λ h. let t = both (both (both h .1) .1) .1 in pair (pair (both (both h .1) .0) (both t .0)) (both t .1))
-      (λ h. let o = both (both h .0) in
-      let e = same (o .1) in
-      let ends = every-of 4 _ (λ n lt. let s = section-ends d e n lt in pair (most! (s .0)) (most! (s .1))) in
-      pair (most! (some-bytes d e)) (pair (o .0) (pair ends (pair (o .1) (both h .1)))))
+-- the two halves
+pub framed-is : (P : Plan) (d : Bytes) → wellFramed P d ≡ laidOut d and sectionsRight P (dataOf d)
+unfolding wellFramed laidOut lengthsRight sectionsRight
+framed-is P d =
+    agree (λ h. let t = both (both (both h .1) .1) .1 in pair (pair (both (both h .1) .0) (both t .0)) (both t .1))
+    (λ h. let o = both (both h .0) in
+    let e = same (o .1) in
+    let ends = every-of DATA-SECTIONS _ (λ n lt. let s = section-ends d e n lt in pair (most! (s .0)) (most! (s .1))) in
+    pair (most! (some-bytes d e)) (pair (o .0) (pair ends (pair (o .1) (both h .1)))))
 
 -- the sections of bytes that the last one ends with
-pub laid-out-delimited : (d : Bytes) → Is (laidOut d) → Delimits 4 d (frameOf 4 d)
+pub laid-out-delimited : (d : Bytes) → Is (laidOut d) → Delimits DATA-SECTIONS d (frameOf DATA-SECTIONS d)
 unfolding laidOut
 laid-out-delimited d h =
     record {
       few = omega arith;
-      places = λ k l. frame-at d 4 k (omega arith) l;
-      inside = λ k l. omega (arith, same (both h .1), boundary-grows d k 4 l);
+      places = λ k l. frame-at d DATA-SECTIONS k (omega arith) l;
+      inside = λ k l. omega (arith, same (both h .1), boundary-grows d k DATA-SECTIONS l);
     }
 
 -- the last place of their frame
-pub last-place : (d : Bytes) {frame : Frame} → frame ≡ frameOf 4 d → getD (frame .boundaries) 4 0 ≡ boundary d 4
-last-place d e = rw e (frame-at d 4 4 (omega arith) (omega arith))
-
--- the bodies that a data set's bytes have, handed on one by one
-pub handed-data : (d : Bytes) {pieceCount sizes entries members : Bytes} → pieceCount ≡ body d 0 → sizes ≡ body d 1 → entries ≡ body d 2 →
-    members ≡ body d 3 → dataParts pieceCount sizes entries members ≡ dataOf d
-handed-data d n s e m = rw (n, s, e, m)
+pub last-place : (d : Bytes) {frame : Frame} → frame ≡ frameOf DATA-SECTIONS d
+    → getD (frame .boundaries) DATA-SECTIONS 0 ≡ boundary d DATA-SECTIONS
+last-place d e = rw e (frame-at d DATA-SECTIONS DATA-SECTIONS (omega arith) (omega arith))
 
 -- a size is read as 0 where there is no region
-pub sizes-most : (n : ℕ) (sizes : Bytes) → length sizes ≡ 2 * n → ((r : ℕ) → r < n → u16 sizes (2 * r) ≤ 512) → (region : ℕ) → u16 sizes (2 * region) ≤ 512
-sizes-most n sizes long small region = go (decLt region n)
+sizes-most : (n : ℕ) (D : DataSet) → length (D .sizes) ≡ 2 * n → ((r : ℕ) → r < n → size D r ≤ 512) → (region : ℕ) → size D region ≤ 512
+unfolding size
+sizes-most n D long small region = go (decLt region n)
   where
-    go : Dec (region < n) → u16 sizes (2 * region) ≤ 512
+    go : Dec (region < n) → u16 (D .sizes) (2 * region) ≤ 512
     go (yes l) = small region l
     go (no l) =
         omega (
           arith,
-          List·getD-eq-default sizes 0 {n = 2 * region} (omega arith),
-          List·getD-eq-default sizes 0 {n = 2 * region + 1} (omega arith),
+          List·getD-eq-default (D .sizes) 0 {n = 2 * region} (omega arith),
+          List·getD-eq-default (D .sizes) 0 {n = 2 * region + 1} (omega arith),
         )
+
+-- what the second half gives
+module _ (P : Plan) (D : DataSet) (right : Is (sectionsRight P D)) where
+  ends-right : (length (D .entries) ≡ entryStart P D (mapCount P)) × (length (D .members) ≡ memberStart P D (suppliedCount P))
+  unfolding sectionsRight lengthsRight
+  ends-right = let last = both (both (both (both (both (both right .1) .1) .1) .1) .1) in (same (last .0), same (last .1))
+
+  counts-small : (pieces D ≤ 16) × ((region : ℕ) → size D region ≤ 512)
+  unfolding sectionsRight lengthsRight
+  counts-small =
+      let rest = both (both (both right .1) .1) in
+      let sizes = both (rest .1) in
+      (most (rest .0), sizes-most _ D (same (sizes .0)) (λ r lt. most (every-at _ _ (both (sizes .1) .0) r lt)))
+
+-- where the first half holds
+module _ (P : Plan) (d : Bytes) {frame : Frame} {r : DataLayout} (layout : Is (laidOut d)) (placed : SectionsPlaced P d frame r) where
+  parts-placed : frame ≡ frameOf DATA-SECTIONS d → r .outcome ≡ Pass → DataPlaced P d r
+  parts-placed e pass =
+      let right = require-pass _ _ (sym (placed .outcome) ∙ pass) in
+      let ends = ends-right P (dataOf d) right in
+      let small = counts-small P (dataOf d) right in
+      record {
+        delimited = rw (placed .frame-is, e) (laid-out-delimited d layout);
+        entries = record { begin = placed .entries-begin; whole = ends .0 };
+        members = record { begin = placed .members-begin; whole = ends .1; few-pieces = small .0; small-regions = small .1 };
+      }
+
+  pub layout-read : frame ≡ frameOf DATA-SECTIONS d → LayoutRead P d r
+  unfolding _and_
+  layout-read e = record { outcome = rw (framed-is P d, layout) (placed .outcome); placed = parts-placed e }
+
+-- where it does not
+pub layout-refused : (P : Plan) (d : Bytes) {r : DataLayout} → laidOut d ≡ false → r .outcome ≡ Refuse InvalidData → LayoutRead P d r
+unfolding _and_ require
+layout-refused P d wrong refused = record { outcome = rw (framed-is P d, wrong) refused; placed = λ pass. never (sym refused ∙ pass) }

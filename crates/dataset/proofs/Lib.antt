@@ -1,6 +1,4 @@
-pub mod Starts
-pub mod Loops
 pub mod Framing
+pub mod Starts
 pub mod Columns
-pub mod Depends
-pub mod Reading
+pub mod Stages

@@ -31,12 +31,12 @@ columnOf words n =
 -- pieces of a region of so many elements lie in few members
 pub record PiecesInside (members : Bytes) (start size pieces : ℕ) : Type 0 where
   pub inside : start + pieces * ((size + 7) / 8) ≤ length members
-  pub few : length members < 65536
-  pub small : size ≤ 512
+  pub few-members : length members < 65536
+  pub small-region : size ≤ 512
 
 -- a column of a region of so many elements has an element
 pub record ColumnOfRegion (size c : ℕ) : Type 0 where
-  pub small : size ≤ 512
+  pub small-region : size ≤ 512
   pub some-element : 64 * c < size
 
 -- and of pieces that lie in few members

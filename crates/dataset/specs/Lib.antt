@@ -1,7 +1,4 @@
-pub mod DataParts
-pub mod Starts
-pub mod Framing
-pub mod MapEntries
 pub mod Columns
-pub mod SectionChecks
-pub mod Reading
+pub mod Entries
+pub mod Supplied
+pub mod Layout

@@ -1,41 +1,17 @@
-// The entries of the maps: where each map's begin, and whether each leads to an element.
+// The entries of the maps: whether each leads to an element.
+use crate::cells::region_size;
 use bitsets::words::u16_inside;
 use model::Outcome;
 use model::Refusal;
-use primitives::bytes::byte_at;
-use primitives::bytes::u16_at;
+use primitives::records::map_source;
+use primitives::records::map_target;
+use primitives::records::map_totality;
 ghost use mathlib.Core.Path.{_≡_};
-ghost use Prim.Native.Nat.{_+_, _*_, _/_, _≤_};
-ghost use mathlib.Core.List.{[]};
+ghost use Prim.Native.Nat.{_+_, _*_, _≤_};
 ghost use lib.ListN.{length};
-ghost use Rattle.model.specs.DataSets.{entriesCheck};
-ghost use Rattle.dataset.specs.DataParts.{mapsPlan, entriesData};
-ghost use Rattle.dataset.specs.Starts.{entryStarts, MapPlaced, EntriesPlaced};
-ghost use Rattle.dataset.specs.MapEntries.{EntriesInside, entryFitting, entriesFitting, entriesFrom};
-ghost use Rattle.dataset.specs.SectionChecks.{allEntries};
-
-// Where each map's entries begin in their section, and where the last map's end.
-pub struct EntryStarts {
-    pub starts: [usize; 16],
-    pub end: usize,
-}
-
-// The maps in order, an entry of two bytes per source element.
-pub fn place_entries(maps: &[u8], sizes: &[u8]) -> EntryStarts
-    requires { ⌜ length (now maps) / 3 ≤ 16 ⌝ }
-    ensures { λ r. ⌜ r ≡ entryStarts (mapsPlan (now (maps .entry))) (entriesData (now (sizes .entry)) []) ⌝ }
-{
-    let count = maps.len() / 3;
-    let mut starts = [0usize; 16];
-    let mut end = 0;
-    let mut map = 0;
-    while map < count {
-        starts[map] = end;
-        end += 2 * u16_at(sizes, 2 * byte_at(maps, map * 3));
-        map += 1;
-    }
-    EntryStarts { starts, end }
-}
+ghost use Rattle.model.specs.Layout.{Plan};
+ghost use Rattle.model.specs.DataSets.{DataSet, entryStart, entriesCheck};
+ghost use Rattle.dataset.specs.Entries.{EntriesInside, entryFitting, entriesFitting, entriesFrom, EntrySources, MapReady, EntriesPlaced, EntriesReady, allEntries};
 
 // Whether an entry leads to an element below the limit, or is none in a partial map.
 fn entry_fits(entry: u16, limit: u16, partial: bool) -> bool
@@ -106,19 +82,19 @@ fn check_map_entries(
 
 // The entries of one of the plan's maps.
 fn check_map(maps: &[u8], sizes: &[u8], entries: &[u8], start: usize, map: usize) -> Outcome
-    requires { ⌜ MapPlaced (mapsPlan (now maps)) (entriesData (now sizes) (now entries)) start map ⌝ }
-    ensures { λ r. ⌜ r ≡ entriesCheck (mapsPlan (now (maps .entry))) (entriesData (now (sizes .entry)) (now (entries .entry))) map ⌝ }
+    requires { ⌜ MapReady (now maps) (now sizes) (now entries) start map ⌝ }
+    ensures { λ r. ⌜ ((P : Plan) (D : DataSet) → EntrySources P D (now (maps .entry)) (now (sizes .entry)) (now (entries .entry)) → start ≡ entryStart P D map → r ≡ entriesCheck P D map) ⌝ }
 {
-    let count = u16_at(sizes, 2 * byte_at(maps, map * 3));
-    let limit = u16_at(sizes, 2 * byte_at(maps, map * 3 + 1)) as u16;
-    let partial = byte_at(maps, map * 3 + 2) == 0;
+    let count = region_size(sizes, map_source(maps, map));
+    let limit = region_size(sizes, map_target(maps, map)) as u16;
+    let partial = map_totality(maps, map) == 0;
     check_map_entries(entries, start, count, limit, partial, map)
 }
 
-// The entries of all maps, in order.
-pub fn check_entries(maps: &[u8], sizes: &[u8], entries: &[u8], starts: [usize; 16]) -> Outcome
-    requires { ⌜ EntriesPlaced (mapsPlan (now maps)) (entriesData (now sizes) (now entries)) starts ⌝ }
-    ensures { λ r. ⌜ r ≡ allEntries (mapsPlan (now (maps .entry))) (entriesData (now (sizes .entry)) (now (entries .entry))) ⌝ }
+// The entries of all maps, in order, where each map's begin as given.
+pub fn check_entries(maps: &[u8], sizes: &[u8], entries: &[u8], starts: &[usize; 16]) -> Outcome
+    requires { ⌜ EntriesReady (now maps) (now sizes) (now entries) (now starts) ⌝ }
+    ensures { λ r. ⌜ ((P : Plan) (D : DataSet) → EntrySources P D (now (maps .entry)) (now (sizes .entry)) (now (entries .entry)) → EntriesPlaced P D (now (starts .entry)) → r ≡ allEntries P D) ⌝ }
 {
     let count = maps.len() / 3;
     let mut map = 0;

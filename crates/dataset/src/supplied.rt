@@ -1,4 +1,5 @@
-// The supplied partitions: where each one's members begin, and whether it keeps its flags.
+// The supplied partitions: whether each keeps its flags.
+use crate::cells::region_size;
 use bitsets::words::eight_bytes;
 use bitsets::words::reverse_bytes;
 use bitsets::words::word_below;
@@ -6,41 +7,14 @@ use bitsets::words::word_between;
 use model::Outcome;
 use model::Refusal;
 use primitives::bytes::byte_at;
-use primitives::bytes::u16_at;
+use primitives::records::supplied_flags;
+use primitives::records::supplied_region;
 ghost use mathlib.Core.Path.{_≡_};
-ghost use Prim.Native.Nat.{_+_, _/_, _≤_};
-ghost use mathlib.Core.List.{[]};
-ghost use lib.ListN.{length};
-ghost use Rattle.model.specs.DataSets.{declarationsHold};
-ghost use Rattle.dataset.specs.DataParts.{suppliedPlan, membersData};
-ghost use Rattle.dataset.specs.Starts.{memberStarts, PartitionPlaced, MembersPlaced};
+ghost use Prim.Native.Nat.{_+_, _/_};
+ghost use Rattle.model.specs.Layout.{Plan};
+ghost use Rattle.model.specs.DataSets.{DataSet, memberStart, declarationsHold};
 ghost use Rattle.dataset.specs.Columns.{PiecesInside, ColumnOfRegion, ColumnInside, columnOf, pieceWord, columnKeepsFlags, columnsKeepFlags};
-ghost use Rattle.dataset.specs.SectionChecks.{allSupplied};
-
-// Where each supplied partition's pieces begin in their section, and where the last one's end.
-pub struct MemberStarts {
-    pub starts: [usize; 8],
-    pub end: usize,
-}
-
-// The supplied partitions in order, piece by piece, each piece in whole bytes.
-pub fn place_members(supplied: &[u8], piece_count: &[u8], sizes: &[u8]) -> MemberStarts
-    requires { ⌜ length (now supplied) / 2 ≤ 8 ⌝ }
-    ensures { λ r. ⌜ r ≡ memberStarts (suppliedPlan (now (supplied .entry))) (membersData (now («piece_count» .entry)) (now (sizes .entry)) []) ⌝ }
-{
-    let count = supplied.len() / 2;
-    let pieces = byte_at(piece_count, 0);
-    let mut starts = [0usize; 8];
-    let mut end = 0;
-    let mut partition = 0;
-    while partition < count {
-        starts[partition] = end;
-        let size = u16_at(sizes, 2 * byte_at(supplied, partition * 2));
-        end += pieces * ((size + 7) / 8);
-        partition += 1;
-    }
-    MemberStarts { starts, end }
-}
+ghost use Rattle.dataset.specs.Supplied.{SuppliedSources, PartitionReady, MembersPlaced, SuppliedReady, allSupplied};
 
 // Eight bytes of each piece: the elements in some piece, and those in two.
 pub struct Column {
@@ -118,27 +92,27 @@ fn partition_keeps_flags(
     start: usize,
     partition: usize,
 ) -> bool
-    requires { ⌜ PartitionPlaced (suppliedPlan (now supplied)) (membersData (now «piece_count») (now sizes) (now members)) start partition ⌝ }
-    ensures { λ r. ⌜ r ≡ declarationsHold (suppliedPlan (now (supplied .entry))) (membersData (now («piece_count» .entry)) (now (sizes .entry)) (now (members .entry))) partition ⌝ }
+    requires { ⌜ PartitionReady (now supplied) (now «piece_count») (now sizes) (now members) start partition ⌝ }
+    ensures { λ r. ⌜ ((P : Plan) (D : DataSet) → SuppliedSources P D (now (supplied .entry)) (now («piece_count» .entry)) (now (sizes .entry)) (now (members .entry)) → start ≡ memberStart P D partition → r ≡ declarationsHold P D partition) ⌝ }
 {
-    let size = u16_at(sizes, 2 * byte_at(supplied, partition * 2));
-    let flags = byte_at(supplied, partition * 2 + 1);
+    let size = region_size(sizes, supplied_region(supplied, partition));
+    let flags = supplied_flags(supplied, partition);
     let pieces = byte_at(piece_count, 0);
     let disjoint = (flags == 1) | (flags == 3);
     let complete = (flags == 2) | (flags == 3);
     columns_keep_flags(members, start, size, pieces, disjoint, complete)
 }
 
-// The flags of all supplied partitions, in order.
+// The flags of all supplied partitions, in order, where each one's members begin as given.
 pub fn check_supplied(
     supplied: &[u8],
     piece_count: &[u8],
     sizes: &[u8],
     members: &[u8],
-    starts: [usize; 8],
+    starts: &[usize; 8],
 ) -> Outcome
-    requires { ⌜ MembersPlaced (suppliedPlan (now supplied)) (membersData (now «piece_count») (now sizes) (now members)) starts ⌝ }
-    ensures { λ r. ⌜ r ≡ allSupplied (suppliedPlan (now (supplied .entry))) (membersData (now («piece_count» .entry)) (now (sizes .entry)) (now (members .entry))) ⌝ }
+    requires { ⌜ SuppliedReady (now supplied) (now «piece_count») (now sizes) (now members) (now starts) ⌝ }
+    ensures { λ r. ⌜ ((P : Plan) (D : DataSet) → SuppliedSources P D (now (supplied .entry)) (now («piece_count» .entry)) (now (sizes .entry)) (now (members .entry)) → MembersPlaced P D (now (starts .entry)) → r ≡ allSupplied P D) ⌝ }
 {
     let count = supplied.len() / 2;
     let mut partition = 0;

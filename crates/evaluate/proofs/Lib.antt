@@ -1,1 +1,2 @@
+pub mod DataParts
 pub mod Stages

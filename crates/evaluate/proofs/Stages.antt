@@ -1,168 +1,129 @@
--- The stages of evaluating: what each is handed is at hand, and what it leaves is what the checks say. Assumes nothing.
-use Prim.Native.Nat.{ℕ, _*_, _/_, _≤_, _<_}
-use mathlib.Core.Path.{_≡_, refl, sym, ap, _∙_}
+-- The stages of an evaluation in a row, what the fills ask for after the last, and the promise that follows. Assumes nothing.
+use Prim.Native.Nat.{ℕ, _*_, _≤_, _<_}
+use mathlib.Core.Path.{_≡_, refl, sym, _∙_}
 use mathlib.Core.List.{List}
 use mathlib.Core.Bool.{false}
-use native.Mathlib.Nat.{mul-le-mul}
 use native.Mathlib.Omega.{arith}
 use lib.ListN.{length}
 use Rattle.model.specs.Tests.{_≤?_}
 use Rattle.model.specs.Bytes.{Bytes, body}
 use Rattle.model.specs.Outcomes.{require, _then_, conclude}
-use Rattle.model.specs.Layout.{Plan, planOf}
+use Rattle.model.specs.Layout.{planOf, nodeCount}
 use Rattle.model.specs.Verdict.{planCheck, accepted, verdict}
 use Rattle.model.specs.DataSets.{dataOf, pieces, dataCheck}
-use Rattle.model.specs.Evaluation.{wordsNeeded, evaluationCheck, evaluation, filledWords, wordsAfter}
+use Rattle.model.specs.Evaluation.{wordsNeeded, inputsCheck, outputCheck, evaluationCheck, evaluation, filledWords}
 use Rattle.model.specs.Promises.{EvaluationPromise}
-use Rattle.model.specs.declared.Answer.{Answer}
 use Rattle.model.specs.declared.Answer.the-variants.{Accepted, Refused}
 use Rattle.model.specs.declared.Refusal.{Refusal}
 use Rattle.model.specs.declared.Refusal.the-variants.{OutputTooSmall}
 use Rattle.model.specs.declared.Outcome.{Outcome}
 use Rattle.model.specs.declared.Outcome.the-variants.{Pass, Refuse}
-use Rattle.model.proofs.Tests.{most!, most, fails, refuted}
-use Rattle.model.proofs.Outcomes.{required, conclude-accepted}
-use Rattle.model.proofs.Fitting.{fit}
+use Rattle.model.proofs.Tests.{most, most!, fails, refuted}
+use Rattle.model.proofs.Outcomes.{then-assoc, passes-then, required, conclude-accepted, conclude-refused}
 use Rattle.model.proofs.EvaluationPromise.{evaluation-promise}
+use Rattle.model.proofs.JudgementPromise.{inputs-accepted, words-most}
+use Rattle.primitives.proofs.Stages.{stage-passed, stage-refused}
 use Rattle.plan.specs.declared.Reading.{Reading}
-use Rattle.plan.specs.Reading.{AcceptedReading}
-use Rattle.primitives.specs.declared.sections.Frame.{Frame}
-use Rattle.dataset.specs.declared.data.DataReading.{DataReading}
-use Rattle.dataset.specs.Reading.{sections, FewRecords, reading}
-use Rattle.subregions.specs.Fill.{AllHanded}
-use Rattle.evaluate.specs.Stages.{Sections, DataHeld, Held, lentCheck, wordsLeft, Left, SectionsReady, PlanDone}
-use Rattle.dataset.proofs.Reading.{DataGiven, data-given, reading-of}
+use Rattle.plan.specs.Reading.{ReadPromise}
+use Rattle.dataset.specs.declared.layout.DataLayout.{DataLayout}
+use Rattle.dataset.specs.Layout.{frameCheck, LayoutRead}
+use Rattle.dataset.proofs.Stages.{data-in-parts}
+use Rattle.subregions.specs.Fill.{FillSources}
+use Rattle.evaluate.specs.Data.{PlanPlaced, ContentsReady, contentsCheck}
+use Rattle.evaluate.specs.Words.{WordsReady}
 
-few-records : {P : Plan} {maps supplied nodes : Bytes} → Sections P maps supplied nodes → FewRecords P
-few-records S = record { maps = S .limits .few-maps; supplied = S .limits .few-supplied }
-
--- the sections that a data set is read against are the plan's
-pub few-of-sections : {regions maps supplied nodes : Bytes} → SectionsReady regions maps supplied nodes → FewRecords (sections regions maps supplied)
-few-of-sections R = let S = R .sections in record { maps = rw (S .maps-are) (S .limits .few-maps); supplied = rw (S .supplied-are) (S .limits .few-supplied) }
-
-few-nodes : {P : Plan} {maps supplied nodes : Bytes} → Sections P maps supplied nodes → length nodes / 4 ≤ 48
-few-nodes S = rw (S .nodes-are) (S .limits .few-nodes)
-
-module _ (P : Plan) {maps supplied nodes : Bytes} where
-  -- as read against these sections, so against the plan
-  pub read-as : (d : Bytes) {regions : Bytes} {r : DataReading} → regions ≡ P .regions → Sections P maps supplied nodes →
-      r ≡ reading (sections regions maps supplied) d → r ≡ reading P d
-  read-as d regions-are S read = read ∙ rw (regions-are, S .maps-are, S .supplied-are) (reading-of P d)
-
-module _ (P : Plan) {maps supplied nodes d : Bytes} where
-  -- what all fills ask for, of the data set's bodies
-  pub all-handed :
-      {frame : Frame} {sizes entries members : Bytes} {entryStarts memberStarts : List ℕ} {N lent : ℕ} → sizes ≡ body d 1 → entries ≡ body d 2 →
-      members ≡ body d 3 → DataHeld P maps supplied nodes d frame entryStarts memberStarts N lent →
-      AllHanded P (dataOf d) maps supplied nodes sizes entries members entryStarts memberStarts N lent
-  all-handed sizes-are entries-are members-are held =
-      record {
-        handed = record {
-          plan = held .sections .facts;
-          limits = held .sections .limits;
-          fit = fit P d (held .fits);
-          enough = held .enough;
-          nodes-are = held .sections .nodes-are;
-          entries-are = entries-are;
-          members-are = members-are;
-          pieces-are = held .pieces-are;
-          entries-begin = held .entries-begin;
-          members-begin = held .members-begin;
-        };
-        sizes-handed = record {
-          plan = held .sections .facts;
-          few = held .sections .limits .few-nodes;
-          maps-are = held .sections .maps-are;
-          supplied-are = held .sections .supplied-are;
-          nodes-are = held .sections .nodes-are;
-          sizes-are = sizes-are;
-        };
-      }
-
-  module _ {r : DataReading} (held : Held P maps supplied nodes d r) where
-    pub given : DataGiven P d r
-    given = rw (held .read) (data-given P d (few-records (held .sections)) (held .fits))
-
-    module _ {N : ℕ} (counted : N ≡ pieces (dataOf d)) where
-      pub needed : length nodes / 4 * N * 8 ≡ wordsNeeded P (dataOf d)
-      needed = rw (held .sections .nodes-are, counted)
-
-      pub words-few : N < 256 → (length nodes / 4 * N ≤ 12240)
-      words-few l = mul-le-mul {n₂ = 48} {m₂ = 255} (few-nodes (held .sections)) (omega arith)
-
-      pub data-held : {lent : ℕ} → length nodes / 4 * N * 8 ≤ lent → DataHeld P maps supplied nodes d (r .frame) (r .«entry_starts») (r .«member_starts») N lent
-      data-held enough =
-          record {
-            sections = held .sections;
-            fits = held .fits;
-            delimited = given .delimited;
-            entries-begin = given .entries-begin;
-            members-begin = given .members-begin;
-            pieces-are = counted;
-            enough = let e = needed in omega arith;
-          }
-
-      pub words-lacking : (old : List ℕ) → length old < length nodes / 4 * N * 8
-          → Left P (lentCheck P d (length old)) d old old (Refuse (OutputTooSmall (length nodes / 4 * N * 8)))
-      unfolding require wordsLeft
-      words-lacking old few =
-          let short : (wordsNeeded P (dataOf d) ≤? length old) ≡ false = fails (refuted (λ m. let l = most m in let e = needed in absurd (omega arith))) in
-          record { checked = rw (needed, short); words = refl }
-
-      pub words-filled : (old : List ℕ) {new : List ℕ} → length nodes / 4 * N * 8 ≤ length old → new ≡ filledWords P (dataOf d) old →
-          Left P (lentCheck P d (length old)) d old new Pass
-      unfolding require wordsLeft
-      words-filled old enough filled =
-          let e = needed in
-          record { checked = sym (required _ _ (most! (omega arith))); words = filled }
-
--- by the outcome of the data set's checks
-module _ (P : Plan) (d : Bytes) {o : Outcome} (checked : o ≡ dataCheck P d) where
-  pub data-fits : {old new : List ℕ} {outcome : Outcome} → o ≡ Pass → Left P (lentCheck P d (length old)) d old new outcome →
-      Left P (dataCheck P d then lentCheck P d (length old)) d old new outcome
-  unfolding _then_
-  data-fits pass left = rw (sym checked ∙ pass) left
-
-  pub data-refused : (old : List ℕ) {r : Refusal} → o ≡ Refuse r → Left P (dataCheck P d then lentCheck P d (length old)) d old old (Refuse r)
-  unfolding _then_ wordsLeft
-  data-refused old refused = record { checked = rw (sym checked ∙ refused); words = refl }
-
--- the sections of a plan that was read
-pub plan-sections : {p : Bytes} {r : Reading} {maps supplied nodes : Bytes} → AcceptedReading p r → maps ≡ body p 1 → supplied ≡ body p 2 →
-    nodes ≡ body p 4 → Sections (planOf p) maps supplied nodes
-plan-sections ready maps-are supplied-are nodes-are =
+pub fill-sources :
+    {p d : Bytes} {reading : Reading} {layout : DataLayout} {lent : ℕ} → WordsReady p reading d layout lent → {nodes sizes entries members : Bytes} {N : ℕ} →
+    nodes ≡ body p 4 → sizes ≡ body d 1 → entries ≡ body d 2 → members ≡ body d 3 → N ≡ pieces (dataOf d) →
+    FillSources (planOf p) d nodes (reading .«node_regions») sizes entries members (layout .«entry_starts») (layout .«member_starts») N lent
+fill-sources ready nodes-are sizes-are entries-are members-are counted =
     record {
-      facts = ready .facts;
-      limits = ready .limits;
-      maps-are = maps-are;
-      supplied-are = supplied-are;
+      facts = ready .accepted .facts;
+      limits = ready .accepted .limits;
+      fits = ready .fits;
+      enough = ready .enough;
       nodes-are = nodes-are;
+      node-regions-are = ready .accepted .node-regions;
+      sizes-are = sizes-are;
+      entries-are = entries-are;
+      members-are = members-are;
+      pieces-are = counted;
+      entries-begin = ready .placed .entries .begin;
+      members-begin = ready .placed .members .begin;
     }
 
--- the words that the checks leave are those after their answer
-left-after : (p d : Bytes) (old : List ℕ) (o : Outcome) {a : Answer} {symbols nodes steps : ℕ} → a ≡ Accepted symbols nodes steps →
-    wordsLeft (planOf p) d old o ≡ wordsAfter p d old (conclude o a)
-unfolding wordsLeft conclude
-left-after p d old Pass e = rw e
-left-after p d old (Refuse r) e = refl
+-- the promise, by the outcome of all checks
+module _ (p d : Bytes) (old : List ℕ) where
+  pub refusal-given : {r : Refusal} → Refuse r ≡ evaluationCheck p d (length old) → EvaluationPromise p d old old (Refused r)
+  unfolding evaluation conclude
+  refusal-given h = evaluation-promise p d old old _ (rw (sym h)) refl
 
-refused-check : (o : Outcome) (a : Answer) {r : Refusal} → conclude o a ≡ Refused r → (a ≡ Refused r → ⊥) → o ≡ Refuse r
-unfolding conclude
-refused-check Pass a h never = absurd (never h)
-refused-check (Refuse q) a h never = cc
+-- the stages in the paper's order
+in-stages : (p d : Bytes) (lent : ℕ) → evaluationCheck p d lent ≡
+    (planCheck p then frameCheck (planOf p) d then contentsCheck (planOf p) (dataOf d) then outputCheck (planOf p) (dataOf d) lent)
+unfolding evaluationCheck
+in-stages p d lent = rw (data-in-parts (planOf p) d, then-assoc)
 
--- by the verdict of the plan
-module _ (p d : Bytes) {old : List ℕ} {answer : Answer} (judged : answer ≡ verdict p) where
-  pub promise-accepted : {new : List ℕ} {symbols nodes steps : ℕ} {o : Outcome} {r : Answer} → answer ≡ Accepted symbols nodes steps →
-      PlanDone p d old new o → r ≡ conclude o answer → EvaluationPromise p d old new r
-  unfolding verdict evaluation evaluationCheck _then_
-  promise-accepted told left concluded =
-      let (passes, counts) = conclude-accepted _ _ _ _ _ (sym judged ∙ told) in
-      evaluation-promise p d old _ _ (concluded ∙ rw (left .checked, passes, told ∙ sym counts))
-      (left .words ∙ left-after p d old _ told ∙ ap (wordsAfter p d old) (sym concluded))
+pub plan-placed : {p : Bytes} {reading : Reading} {symbols nodes steps : ℕ} → ReadPromise p reading → reading .answer ≡ Accepted symbols nodes steps → PlanPlaced p (reading .frame)
+plan-placed read told = let known = read .accepted _ _ _ told in record { delimited = known .delimited; limits = known .limits }
 
-  pub promise-refused : {r : Refusal} → answer ≡ Refused r → EvaluationPromise p d old old (Refused r)
-  unfolding verdict evaluation evaluationCheck _then_ conclude
-  promise-refused told =
-      let refused = refused-check (planCheck p) (accepted (planOf p)) (sym judged ∙ told) (λ q. let z : _≡_ {A = ℕ} 0 1 = cc in absurd (omega arith)) in
-      evaluation-promise p d old old _ (rw refused) refl
+-- the plan
+module _ (p d : Bytes) (lent : ℕ) {reading : Reading} (read : ReadPromise p reading) where
+  pub plan-refused : {r : Refusal} → reading .answer ≡ Refused r → Refuse r ≡ evaluationCheck p d lent
+  unfolding verdict
+  plan-refused told = stage-refused _ (in-stages p d lent) refl (conclude-refused (planCheck p) _ _ _ _ (sym (read .answer) ∙ told))
+
+  module _ {symbols nodes steps : ℕ} (told : reading .answer ≡ Accepted symbols nodes steps) where
+    plan-accepted : (planCheck p ≡ Pass) × (accepted (planOf p) ≡ Accepted symbols nodes steps)
+    unfolding verdict
+    plan-accepted = conclude-accepted _ _ _ _ _ (sym (read .answer) ∙ told)
+
+    plan-passed : evaluationCheck p d lent ≡ (frameCheck (planOf p) d then contentsCheck (planOf p) (dataOf d) then outputCheck (planOf p) (dataOf d) lent)
+    plan-passed = stage-passed _ (in-stages p d lent) refl (plan-accepted .0)
+
+    -- the data set's layout
+    module _ {layout : DataLayout} (laid : LayoutRead (planOf p) d layout) where
+      pub layout-refused : {r : Refusal} → layout .outcome ≡ Refuse r → Refuse r ≡ evaluationCheck p d lent
+      layout-refused = stage-refused _ plan-passed (laid .outcome)
+
+      module _ (passed : layout .outcome ≡ Pass) where
+        pub contents-ready : ContentsReady p (reading .frame) d layout
+        contents-ready = record { plan-placed = plan-placed read told; data-placed = laid .placed passed }
+
+        -- its contents
+        module _ {contents : Outcome} (checked : contents ≡ contentsCheck (planOf p) (dataOf d)) where
+          pub contents-refused : {r : Refusal} → contents ≡ Refuse r → Refuse r ≡ evaluationCheck p d lent
+          contents-refused = stage-refused _ (stage-passed _ plan-passed (laid .outcome) passed) checked
+
+          module _ (fitting : contents ≡ Pass) {N : ℕ} (counted : N ≡ pieces (dataOf d)) where
+            fits : dataCheck (planOf p) d ≡ Pass
+            fits = data-in-parts (planOf p) d ∙ passes-then (sym (laid .outcome) ∙ passed) (sym checked ∙ fitting)
+
+            needed : nodes * N * 8 ≡ wordsNeeded (planOf p) (dataOf d)
+            needed = let h = plan-accepted .1 in let e : nodes ≡ nodeCount (planOf p) = cc in rw (e, counted)
+
+            pub needed-few : nodes * N ≤ 768
+            unfolding inputsCheck
+            needed-few = let few = words-most p d (inputs-accepted p d (passes-then (plan-accepted .0) fits)) in let e = needed in omega arith
+
+            decides : evaluationCheck p d lent ≡ outputCheck (planOf p) (dataOf d) lent
+            decides = stage-passed _ (stage-passed _ plan-passed (laid .outcome) passed) checked fitting
+
+            -- the number of words
+            pub words-lacking : lent < nodes * N * 8 → Refuse (OutputTooSmall (nodes * N * 8)) ≡ evaluationCheck p d lent
+            unfolding require
+            words-lacking few =
+                let short : (wordsNeeded (planOf p) (dataOf d) ≤? lent) ≡ false = fails (refuted (λ m. let l = most m in let e = needed in absurd (omega arith))) in
+                sym (decides ∙ rw (needed, short))
+
+            module _ (enough : nodes * N * 8 ≤ lent) where
+              pub words-ready : WordsReady p reading d layout lent
+              words-ready = let e = needed in record { accepted = read .accepted _ _ _ told; fits = fits; placed = laid .placed passed; enough = omega arith }
+
+              passes : evaluationCheck p d lent ≡ Pass
+              passes = let e = needed in decides ∙ required _ _ (most! (omega arith))
+
+              pub words-filled : (old : List ℕ) → length old ≡ lent → {new : List ℕ} → new ≡ filledWords (planOf p) (dataOf d) old →
+                  EvaluationPromise p d old new (Accepted symbols nodes steps)
+              unfolding evaluation conclude
+              words-filled old is filled = evaluation-promise p d old _ _ (rw (is, passes) (sym (plan-accepted .1))) filled

@@ -1,5 +1,2 @@
-pub mod Rows
-pub mod RecordValues
 pub mod NodeLaws
-pub mod LicenceLaws
 pub mod StepLaws

@@ -1,17 +1,22 @@
 // Section 5: expressions.
+use model::NodeKind;
 use model::Outcome;
 use model::Refusal;
 use primitives::bytes::byte_at;
 use primitives::bytes::usize_of;
 use primitives::outcomes::and_then;
 use primitives::outcomes::require;
+use primitives::records::map_source;
+use primitives::records::map_target;
+use primitives::records::node_kind_of;
+use primitives::records::supplied_region;
 ghost use mathlib.Core.Path.{_≡_};
-ghost use Prim.Native.Nat.{_+_, _*_, _/_, _^_, _≤_, _<_};
+ghost use Prim.Native.Nat.{ℕ, _+_, _*_, _/_, _^_, _≤_, _<_};
 ghost use lib.ListN.{length};
-ghost use Rattle.expressions.specs.Parts.{nodeParts};
-ghost use Rattle.expressions.specs.Nodes.{nodeKey, isAmong, NodeRead, NodeTurn, FormedRead, RegionRead, NodeChecked, NodesChecked};
+ghost use Rattle.model.specs.Layout.{Plan};
+ghost use Rattle.expressions.specs.Nodes.{NodeSources, nodeKey, isAmong, NodeBytes, NodeRead, formedAs, RegionRead, EarlierNodes, NodeChecked, NodesChecked};
 
-// The kinds of nodes.
+// The bytes of the kinds, for what is said of one kind.
 pub const SUPPLIED: usize = 0;
 
 pub const EQUAL: usize = 1;
@@ -34,20 +39,20 @@ pub struct Node {
     pub unused: usize,
 }
 
-// The region of a node, and whether the regions of its operands agree.
+// The region of a node, and whether the regions of its operands agree, with each other or with its map.
 pub struct NodeRegion {
     pub region: usize,
     pub agrees: bool,
 }
 
-// The outcome of a node and, after a pass, its region and its number.
+// The outcome of a node, its key and, after a pass, its region.
 pub struct CheckedNode {
     pub outcome: Outcome,
     pub region: usize,
     pub key: u32,
 }
 
-// The outcome of section 5 and, after a pass, the region and the number of each node.
+// The outcome of section 5 and, after a pass, the region and the key of each node.
 pub struct CheckedNodes {
     pub outcome: Outcome,
     pub regions: [u8; 48],
@@ -57,7 +62,7 @@ pub struct CheckedNodes {
 // The record of node j, of bytes 0 where there is none.
 pub fn node_at(nodes: &[u8], j: usize) -> Node
     requires { ⌜ j * 4 + 3 < 2 ^ 64 ⌝ }
-    ensures { λ r. ⌜ NodeRead (now (nodes .entry)) j r ⌝ }
+    ensures { λ r. ⌜ NodeBytes r × ((P : Plan) → P .nodes ≡ now (nodes .entry) → NodeRead P j r) ⌝ }
 {
     let kind = byte_at(nodes, j * 4);
     let a = byte_at(nodes, j * 4 + 1);
@@ -69,7 +74,7 @@ pub fn node_at(nodes: &[u8], j: usize) -> Node
 // The record of node j, which is there.
 fn read_node(nodes: &[u8], j: usize) -> Node
     requires { ⌜ j * 4 + 3 < length (now nodes) ⌝ }
-    ensures { λ r. ⌜ NodeRead (now (nodes .entry)) j r ⌝ }
+    ensures { λ r. ⌜ NodeBytes r × ((P : Plan) → P .nodes ≡ now (nodes .entry) → NodeRead P j r) ⌝ }
 {
     let kind = usize_of(nodes[j * 4]);
     let a = usize_of(nodes[j * 4 + 1]);
@@ -78,7 +83,7 @@ fn read_node(nodes: &[u8], j: usize) -> Node
     Node { kind, a, b, unused }
 }
 
-// Kind and operands of a node as one number.
+// Kind, a and b of a node as one key.
 pub fn node_key(kind: usize, a: usize, b: usize) -> u32
     requires { ⌜ (kind < 256) × ((a < 256) × (b < 256)) ⌝ }
     ensures { λ r. ⌜ r ≡ nodeKey kind a b ⌝ }
@@ -86,55 +91,66 @@ pub fn node_key(kind: usize, a: usize, b: usize) -> u32
     (kind + a * 256 + b * 65536) as u32
 }
 
-// Whether the kind of node j is known, its operands are there and its unused bytes are 0.
-fn is_formed(regions: &[u8], maps: &[u8], supplied: &[u8], node: Node, j: usize) -> bool
-    ensures { λ r. ⌜ FormedRead (now (regions .entry)) (now (maps .entry)) (now (supplied .entry)) node j r ⌝ }
+// Whether the last byte of node j is 0, and a and b are as its kind has them: listed, an operand before j, unused 0.
+fn is_formed(
+    kind: NodeKind,
+    regions: &[u8],
+    maps: &[u8],
+    supplied: &[u8],
+    node: Node,
+    j: usize,
+) -> bool
+    ensures { λ r. ⌜ ((P : Plan) → P .regions ≡ now (regions .entry) → P .maps ≡ now (maps .entry) → P .supplied ≡ now (supplied .entry) → NodeRead P j node → r ≡ formedAs P kind j) ⌝ }
 {
     if node.unused != 0 {
         return false;
     }
-    let kind = node.kind;
     match kind {
-        SUPPLIED => (node.a < supplied.len() / 2) & (node.b == 0),
-        EQUAL => (node.a < regions.len()) & (node.b == 0),
-        UNION..=DIFFERENCE => (node.a < j) & (node.b < j),
-        IMAGE..=PREIMAGE => (node.a < j) & (node.b < maps.len() / 3),
-        _ => false,
+        NodeKind::Supplied => (node.a < supplied.len() / 2) & (node.b == 0),
+        NodeKind::Equal => (node.a < regions.len()) & (node.b == 0),
+        NodeKind::Union | NodeKind::Intersection | NodeKind::Difference => {
+            (node.a < j) & (node.b < j)
+        }
+        NodeKind::Image | NodeKind::Preimage => (node.a < j) & (node.b < maps.len() / 3),
+        NodeKind::Unknown => false,
     }
 }
 
-// The region of a formed node, and whether the regions of its operands agree.
-fn region_of(maps: &[u8], supplied: &[u8], earlier: &[u8], node: Node) -> NodeRegion
-    requires { ⌜ (node .a < 256) × (node .b < 256) ⌝ }
-    ensures { λ r. ⌜ RegionRead (now (maps .entry)) (now (supplied .entry)) (now (earlier .entry)) node r ⌝ }
+// The region of a node of this kind, from the regions of earlier nodes, and whether those of a formed node's operands agree.
+fn region_of(kind: NodeKind, maps: &[u8], supplied: &[u8], earlier: &[u8], node: Node) -> NodeRegion
+    requires { ⌜ NodeBytes node ⌝ }
+    ensures { λ r. ⌜ (r .region < 256) × ((P : Plan) (j : ℕ) → P .maps ≡ now (maps .entry) → P .supplied ≡ now (supplied .entry) → NodeRead P j node → RegionRead P kind j (now (earlier .entry)) r) ⌝ }
 {
     let left = byte_at(earlier, node.a);
-    let kind = node.kind;
     match kind {
-        SUPPLIED => NodeRegion {
-            region: byte_at(supplied, node.a * 2),
+        NodeKind::Supplied => NodeRegion {
+            region: supplied_region(supplied, node.a),
             agrees: true,
         },
-        EQUAL => NodeRegion {
+        NodeKind::Equal => NodeRegion {
             region: node.a,
             agrees: true,
         },
-        IMAGE => NodeRegion {
-            region: byte_at(maps, node.b * 3 + 1),
-            agrees: left == byte_at(maps, node.b * 3),
-        },
-        PREIMAGE => NodeRegion {
-            region: byte_at(maps, node.b * 3),
-            agrees: left == byte_at(maps, node.b * 3 + 1),
-        },
-        _ => NodeRegion {
+        NodeKind::Union | NodeKind::Intersection | NodeKind::Difference => NodeRegion {
             region: left,
             agrees: left == byte_at(earlier, node.b),
+        },
+        NodeKind::Image => NodeRegion {
+            region: map_target(maps, node.b),
+            agrees: left == map_source(maps, node.b),
+        },
+        NodeKind::Preimage => NodeRegion {
+            region: map_source(maps, node.b),
+            agrees: left == map_target(maps, node.b),
+        },
+        NodeKind::Unknown => NodeRegion {
+            region: 0,
+            agrees: false,
         },
     }
 }
 
-// Whether one of the first j numbers is this one. It runs to its end, so that several are compared at once.
+// Whether one of the first j keys is this one. It runs to its end, so that several are compared at once.
 fn is_among(keys: &[u32], key: u32, j: usize) -> bool
     requires { ⌜ j ≤ length (now keys) ⌝ }
     ensures { λ r. ⌜ r ≡ isAmong (now (keys .entry)) key j ⌝ }
@@ -158,24 +174,25 @@ fn check_node(
     keys: &[u32],
     j: usize,
 ) -> CheckedNode
-    requires { ⌜ NodeTurn (nodeParts (now regions) (now maps) (now supplied) (now nodes)) (now earlier) (now keys) j ⌝ }
-    ensures { λ r. ⌜ NodeChecked (nodeParts (now (regions .entry)) (now (maps .entry)) (now (supplied .entry)) (now (nodes .entry))) j r ⌝ }
+    requires { ⌜ (j * 4 + 3 < length (now nodes)) × (j ≤ length (now keys)) ⌝ }
+    ensures { λ r. ⌜ (r .region < 256) × ((P : Plan) → NodeSources P (now (regions .entry)) (now (maps .entry)) (now (supplied .entry)) (now (nodes .entry)) → EarlierNodes P (now (earlier .entry)) (now (keys .entry)) j → NodeChecked P j r) ⌝ }
 {
+    let place = 5 * 256 + j;
     let node = read_node(nodes, j);
     let key = node_key(node.kind, node.a, node.b);
-    if is_formed(regions, maps, supplied, node, j) {
-        let known = region_of(maps, supplied, earlier, node);
-        let agrees = require(known.agrees, Refusal::RegionMismatch(5 * 256 + j));
+    let kind = node_kind_of(node.kind);
+    if is_formed(kind, regions, maps, supplied, node, j) {
+        let node_region = region_of(kind, maps, supplied, earlier, node);
+        let agrees = require(node_region.agrees, Refusal::RegionMismatch(place));
         let distinct = require(!is_among(keys, key, j), Refusal::DuplicateNode(j));
         let outcome = and_then(agrees, distinct);
-        let region = known.region;
         CheckedNode {
             outcome,
-            region,
+            region: node_region.region,
             key,
         }
     } else {
-        let outcome = Outcome::Refuse(Refusal::InvalidRecord(5 * 256 + j));
+        let outcome = Outcome::Refuse(Refusal::InvalidRecord(place));
         CheckedNode {
             outcome,
             region: 0,
@@ -184,10 +201,10 @@ fn check_node(
     }
 }
 
-// Section 5: the first refusal of its nodes in order, or the tables of their regions and numbers.
+// Section 5: the first refusal of its nodes in order, or the tables of their regions and keys.
 pub fn check_nodes(regions: &[u8], maps: &[u8], supplied: &[u8], nodes: &[u8]) -> CheckedNodes
     requires { ⌜ length (now nodes) / 4 ≤ 48 ⌝ }
-    ensures { λ r. ⌜ NodesChecked (nodeParts (now (regions .entry)) (now (maps .entry)) (now (supplied .entry)) (now (nodes .entry))) r ⌝ }
+    ensures { λ r. ⌜ (length (r .keys) ≡ 48) × ((P : Plan) → NodeSources P (now (regions .entry)) (now (maps .entry)) (now (supplied .entry)) (now (nodes .entry)) → NodesChecked P r) ⌝ }
 {
     let count = nodes.len() / 4;
     let mut table = [0u8; 48];

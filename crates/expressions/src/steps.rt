@@ -10,9 +10,10 @@ use primitives::outcomes::require;
 ghost use mathlib.Core.Path.{_≡_};
 ghost use Prim.Native.Nat.{_+_, _*_, _/_, _≤_, _<_};
 ghost use lib.ListN.{length};
-ghost use Rattle.model.specs.Lemmas.{lemmaRow, inUse, stepCheck};
-ghost use Rattle.expressions.specs.Parts.{stepParts};
-ghost use Rattle.expressions.specs.Steps.{subsetKey, disjointKey, completeKey, conclusionKey, StepRead, FormedRead, PremisesRead, StepTurn, StepsRead};
+ghost use Rattle.model.specs.Tests.{Is};
+ghost use Rattle.model.specs.Layout.{Plan};
+ghost use Rattle.model.specs.Lemmas.{lemmaRow, inUse, stepFormed, stepCheck};
+ghost use Rattle.expressions.specs.Steps.{StepSources, subsetKey, disjointKey, completeKey, conclusionKey, StepBytes, StepRead, FormedStep, ConclusionKeys, PremisesRead, StepTurn, StepsRead};
 
 // A record of section 7.
 pub struct Step {
@@ -23,7 +24,7 @@ pub struct Step {
     pub q: usize,
 }
 
-// What steps p and q of a step conclude, as numbers.
+// What steps p and q of a step conclude, as keys.
 pub struct Premises {
     pub p: u32,
     pub q: u32,
@@ -32,7 +33,7 @@ pub struct Premises {
 // The record of step t, which is there.
 fn step_at(steps: &[u8], t: usize) -> Step
     requires { ⌜ t * 5 + 4 < length (now steps) ⌝ }
-    ensures { λ r. ⌜ StepRead (now (steps .entry)) t r ⌝ }
+    ensures { λ r. ⌜ StepBytes r × ((P : Plan) → P .steps ≡ now (steps .entry) → StepRead P t r) ⌝ }
 {
     let lemma = usize_of(steps[t * 5]);
     let x = usize_of(steps[t * 5 + 1]);
@@ -42,7 +43,7 @@ fn step_at(steps: &[u8], t: usize) -> Step
     Step { lemma, x, y, p, q }
 }
 
-// SUB(x, y) as a number.
+// SUB(x, y) as a key.
 pub fn subset_key(x: usize, y: usize) -> u32
     requires { ⌜ (x < 256) × (y < 256) ⌝ }
     ensures { λ r. ⌜ r ≡ subsetKey x y ⌝ }
@@ -50,7 +51,7 @@ pub fn subset_key(x: usize, y: usize) -> u32
     (x * 256 + y) as u32
 }
 
-// DISJ(x) as a number.
+// DISJ(x) as a key.
 pub fn disjoint_key(x: usize) -> u32
     requires { ⌜ x < 256 ⌝ }
     ensures { λ r. ⌜ r ≡ disjointKey x ⌝ }
@@ -58,7 +59,7 @@ pub fn disjoint_key(x: usize) -> u32
     (65536 + x * 256) as u32
 }
 
-// COMP(x) as a number.
+// COMP(x) as a key.
 pub fn complete_key(x: usize) -> u32
     requires { ⌜ x < 256 ⌝ }
     ensures { λ r. ⌜ r ≡ completeKey x ⌝ }
@@ -66,7 +67,7 @@ pub fn complete_key(x: usize) -> u32
     (131072 + x * 256) as u32
 }
 
-// What a step of this form concludes of x and y, as a number.
+// What a step of this form concludes of x and y, as a key.
 fn conclusion_key(conclusion: Conclusion, x: usize, y: usize) -> u32
     requires { ⌜ (x < 256) × (y < 256) ⌝ }
     ensures { λ r. ⌜ r ≡ conclusionKey conclusion x y ⌝ }
@@ -88,7 +89,7 @@ fn in_use(used: bool, bound: usize, number: usize) -> bool
 // Whether the lemma of step t is known, and x, y, p and q are as its row has them.
 fn is_formed(nodes: &[u8], step: Step, row: Lemma, t: usize) -> bool
     requires { ⌜ row ≡ lemmaRow (step .lemma) ⌝ }
-    ensures { λ r. ⌜ FormedRead (now (nodes .entry)) step t r ⌝ }
+    ensures { λ r. ⌜ (Is r → FormedStep step t) × ((P : Plan) → P .nodes ≡ now (nodes .entry) → StepRead P t step → r ≡ stepFormed P t) ⌝ }
 {
     let count = nodes.len() / 4;
     let x = in_use(row.x, count, step.x);
@@ -122,8 +123,8 @@ fn check_step(
     row: Lemma,
     t: usize,
 ) -> Outcome
-    requires { ⌜ StepTurn (now steps) (now conclusions) step row t ⌝ }
-    ensures { λ r. ⌜ r ≡ stepCheck (stepParts (now (maps .entry)) (now (supplied .entry)) (now (nodes .entry)) (now (steps .entry))) t ⌝ }
+    requires { ⌜ StepTurn (now conclusions) step row t ⌝ }
+    ensures { λ r. ⌜ ((P : Plan) → StepSources P (now (maps .entry)) (now (supplied .entry)) (now (nodes .entry)) (now (steps .entry)) → StepRead P t step → ConclusionKeys P (t + 1) (now (conclusions .entry)) → r ≡ stepCheck P t) ⌝ }
 {
     if is_formed(nodes, step, row, t) {
         let premises = premises_of(conclusions, step);
@@ -143,7 +144,7 @@ pub fn check_steps(
     conclusions: &mut [u32; 128],
 ) -> Outcome
     requires { ⌜ (length (now steps) / 5 ≤ 128) × (length (now conclusions) ≡ 128) ⌝ }
-    ensures { λ r. ⌜ StepsRead (stepParts (now (maps .entry)) (now (supplied .entry)) (now (nodes .entry)) (now (steps .entry))) r (now (conclusions .exit)) ⌝ }
+    ensures { λ r. ⌜ (length (now (conclusions .exit)) ≡ 128) × ((P : Plan) → StepSources P (now (maps .entry)) (now (supplied .entry)) (now (nodes .entry)) (now (steps .entry)) → StepsRead P r (now (conclusions .exit))) ⌝ }
 {
     let count = steps.len() / 5;
     let mut t = 0;

@@ -6,7 +6,7 @@ use Rattle.model.specs.Tests.{_and_, _==_, _≤?_}
 use Rattle.model.specs.Bytes.{Bytes, boundary}
 use Rattle.model.specs.Outcomes.{require, _then_, scan}
 use Rattle.model.specs.Layout as Layout
-use Rattle.model.specs.Layout.{shapeOf, planOf, sectionCheck, layoutCheck}
+use Rattle.model.specs.Layout.{SECTIONS, shapeOf, planOf, sectionCheck, layoutCheck}
 use Rattle.model.specs.AcceptedPlans.{Limits}
 use Rattle.model.specs.declared.Outcome.{Outcome}
 use Rattle.model.specs.declared.Outcome.the-variants.{Pass, Refuse}
@@ -27,7 +27,7 @@ pub record Shaped (section : ℕ) (shape : Shape) : Type 0 where
 
 -- a section's length, and where it stands
 pub record Placed (bytes at size section : ℕ) : Type 0 where
-  pub listed : section < 7
+  pub listed : section < SECTIONS
   pub inside : at ≤ bytes
   pub short : size < 65536
   pub room : bytes < 2 ^ 63
@@ -44,7 +44,7 @@ lengthCheck bytes at size section =
 
 -- all sections, and nothing after the last
 abbrev pub sectionsCheck : Bytes → Outcome
-sectionsCheck p = scan (sectionCheck p) 0 7 then require (length p ≤? boundary p 7) (TrailingBytes (boundary p 7))
+sectionsCheck p = scan (sectionCheck p) 0 SECTIONS then require (length p ≤? boundary p SECTIONS) (TrailingBytes (boundary p SECTIONS))
 
 abbrev pub noFrame : Frame
 noFrame = record { boundaries = replicate 9 0 }
@@ -62,13 +62,13 @@ abbrev pub framing : Outcome → Frame → Framed
 framing outcome frame = record { outcome = outcome; frame = frameIf outcome frame }
 
 abbrev pub sectionsFramed : Bytes → Framed
-sectionsFramed p = framing (sectionsCheck p) (frameOf 7 p)
+sectionsFramed p = framing (sectionsCheck p) (frameOf SECTIONS p)
 
 abbrev pub framedOf : Bytes → Framed
-framedOf p = framing (layoutCheck p) (frameOf 7 p)
+framedOf p = framing (layoutCheck p) (frameOf SECTIONS p)
 
 -- the frame of a plan whose layout passes: where its sections are, and how many records they have
 pub record Laid (p : Bytes) (frame : Frame) : Type 0 where
   pub passes : layoutCheck p ≡ Pass
-  pub delimited : Delimits 7 p frame
+  pub delimited : Delimits SECTIONS p frame
   pub limits : Limits (planOf p)

@@ -8,6 +8,7 @@ use primitives::sections::Frame;
 ghost use mathlib.Core.Path.{_≡_};
 ghost use Prim.Native.Nat.{_<_, _≤_};
 ghost use lib.ListN.{length};
+ghost use Rattle.model.specs.Layout.{SECTIONS};
 ghost use Rattle.layout.specs.Frames.{Shaped, Placed, lengthCheck, refused, sectionsFramed, framedOf};
 
 // The outcome of the checks of a plan's layout, and its frame where they pass, all 0 where they do not.
@@ -22,6 +23,9 @@ struct Shape {
     fewest: usize,
     most: usize,
 }
+
+// The sections of a plan.
+const SECTIONS: usize = 7;
 
 const SHAPES: [Shape; 7] = [
     Shape {
@@ -63,7 +67,7 @@ const SHAPES: [Shape; 7] = [
 
 // The row of a section, numbered from 0.
 fn shape_of(section: usize) -> Shape
-    requires { ⌜ section < 7 ⌝ }
+    requires { ⌜ section < SECTIONS ⌝ }
     ensures { λ r. ⌜ Shaped section r ⌝ }
 {
     SHAPES[section]
@@ -106,7 +110,7 @@ fn read_sections(plan: &[u8]) -> Framed
     let mut at = 1;
     boundaries[0] = at;
     let mut section = 0;
-    while section < 7 {
+    while section < SECTIONS {
         let size = u16_at(plan, at);
         match check_section(plan.len(), at, size, section) {
             Outcome::Pass => {}

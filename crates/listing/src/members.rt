@@ -1,32 +1,23 @@
 // The members of a piece, read off its words.
 use crate::text::append_spaced;
+use bitsets::words::holds;
 ghost use mathlib.Core.Path.{_≡_};
 ghost use Prim.Native.Nat.{_+_, _*_, _≤_};
-ghost use lib.ListN.{length, getD};
-ghost use Rattle.model.specs.Words.{holds};
+ghost use lib.ListN.{length};
+ghost use Rattle.model.specs.Words as Words;
 ghost use Rattle.listing.specs.Text.{memberText, membersText, Appended};
 
-// The word `offset` words behind the first; 0 past the end.
-fn word_at(words: &[u64], first: usize, offset: usize) -> u64
-    ensures { λ r. ⌜ r ≡ getD (now (words .entry)) (first + offset) 0 ⌝ }
-{
-    if first < words.len() {
-        if offset < words.len() - first {
-            words[first + offset]
-        } else {
-            0
-        }
-    } else {
-        0
-    }
-}
-
-// Whether the set whose words stand from the first on holds an element.
+// Whether the set whose words stand from the first on holds an element; words past the end hold none.
 fn is_member(words: &[u64], first: usize, element: usize) -> bool
-    ensures { λ r. ⌜ r ≡ holds (now (words .entry)) first element ⌝ }
+    ensures { λ r. ⌜ r ≡ Words.holds (now (words .entry)) first element ⌝ }
 {
-    let word = word_at(words, first, element / 64);
-    ((word >> (element % 64)) & 1) == 1
+    if first >= words.len() {
+        return false;
+    }
+    if element / 64 >= words.len() - first {
+        return false;
+    }
+    holds(words, first, element)
 }
 
 // Puts an element behind the first `at` bytes, if the set holds it.

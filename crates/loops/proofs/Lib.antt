@@ -1,7 +1,5 @@
-pub mod ByKind
-pub mod Depends
-pub mod Stored
-pub mod Tracking
-pub mod Pairs
+pub mod Tables
+pub mod StatementLaws
+pub mod Accesses
 pub mod Spans
-pub mod Harmless
+pub mod Parallelizable

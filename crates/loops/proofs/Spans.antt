@@ -2,16 +2,17 @@
 use Prim.Native.Nat.{ℕ, zero, suc, _+_, _≤_, _<_}
 use mathlib.Core.Path.{_≡_, refl, sym, _∙_}
 use mathlib.Core.Logic.{_⊎_, inl, inr}
-use mathlib.Core.Bool.{Bool, true, false}
+use mathlib.Core.Bool.{Bool, true, false, not}
+use native.Mathlib.Numerals.{add-one}
 use native.Mathlib.Omega.{arith}
 use lib.Dec.{ltb}
-use borrow.Author.Tests.{ltb-true, ltb-false}
+use borrow.Author.Tests.{ltb-true, ltb-false, not-true, not-false}
 use Rattle.model.specs.Tests.{Is, any, every, pick}
 use Rattle.model.specs.Layout.{Plan, statementCount}
 use Rattle.model.specs.Statements.{opens, loop, loopBefore}
-use Rattle.model.proofs.Tests.{falsum, fails, refuted, pick-true, pick-false, among, every-at, every-of}
+use Rattle.model.proofs.Tests.{falsum, fails, pair, refuted, pick-true, pick-false, among, every-at, every-of}
 use Rattle.primitives.proofs.Searches.{none-of}
-use Rattle.loops.specs.Loops.{LoopSpan}
+use Rattle.loops.specs.Parallel.{LoopSpan}
 
 -- a number is below a bound or not
 side : (s t : ℕ) → (s < t) ⊎ (t ≤ s)
@@ -89,7 +90,7 @@ module _ (P : Plan) where
     pub span-to-end : statementCount P ≤ t → LoopSpan P f t
     span-to-end le = record { bound = bound; own = own; only = λ s inside e. (omega (arith, loop-most s), omega arith) }
 
--- what holds of each statement of other loops holds of each before the loop, and of all once it does to the loop's end
+-- a pass over the statements of the loop of FOR f decides of all statements, where those of other loops are as the pass wants them
 module _ (P : Plan) (f : ℕ) (test : ℕ → Bool) where
   earlier-loop : (s : ℕ) → s < f → loop P s ≡ f → ⊥
   earlier-loop s lt e = absurd (omega (arith, loop-most P s))
@@ -98,25 +99,21 @@ module _ (P : Plan) (f : ℕ) (test : ℕ → Bool) where
   later-loop span s lt le e = absurd (omega (arith, span .only s lt e .1))
 
   module _ (others : (s : ℕ) → (loop P s ≡ f → ⊥) → Is (test s)) where
-    pub every-before-loop : Is (every f test)
-    every-before-loop = every-of f test (λ s lt. others s (earlier-loop s lt))
+    pub every-start : Is (every f test)
+    every-start = every-of f test (λ s lt. others s (earlier-loop s lt))
 
-    pub every-after-loop : {end t : ℕ} → LoopSpan P f end → end ≤ t → Is (every t test) → Is (every (statementCount P) test)
-    every-after-loop {t = t} span le h = every-of (statementCount P) test at
+    pub every-end : {end s : ℕ} → LoopSpan P f end → end ≤ s → Is (every s test) → true ≡ every (statementCount P) test
+    every-end {s = t} span le h = sym (every-of (statementCount P) test at)
       where
         at : (s : ℕ) → s < statementCount P → Is (test s)
-        at s lt =
-            elim (side s t) [
-              | inl l ↦ every-at t test h s l
-              | inr g ↦ others s (later-loop span s lt (omega arith))
-            ]
+        at s lt = elim (side s t) [ inl l ↦ every-at t test h s l | inr g ↦ others s (later-loop span s lt (omega arith)) ]
 
   module _ (others : (s : ℕ) → (loop P s ≡ f → ⊥) → test s ≡ false) where
-    pub none-before-loop : any f test ≡ false
-    none-before-loop = none-of f test (λ s lt. others s (earlier-loop s lt))
+    pub none-start : any f test ≡ false
+    none-start = none-of f test (λ s lt. others s (earlier-loop s lt))
 
-    pub none-after-loop : {end t : ℕ} → LoopSpan P f end → end ≤ t → any t test ≡ false → any (statementCount P) test ≡ false
-    none-after-loop {t = t} span le h = none-of (statementCount P) test at
+    pub none-end : {end s : ℕ} → LoopSpan P f end → end ≤ s → any s test ≡ false → false ≡ any (statementCount P) test
+    none-end {s = t} span le h = sym (none-of (statementCount P) test at)
       where
         at : (s : ℕ) → s < statementCount P → test s ≡ false
         at s lt =
@@ -124,3 +121,20 @@ module _ (P : Plan) (f : ℕ) (test : ℕ → Bool) where
               | inl l ↦ fails (refuted (λ y. falsum (sym h ∙ among (s, l, y))))
               | inr g ↦ others s (later-loop span s lt (omega arith))
             ]
+
+-- statement s of the loop, by the outcome of its test
+module _ (test : ℕ → Bool) {s : ℕ} {outcome : Bool} (is : outcome ≡ test s) where
+  pub every-next : Is (every s test) → not outcome ≡ false → Is (every (s + 1) test)
+  unfolding every
+  every-next h passed = rw (add-one s) (pair h (sym is ∙ not-false _ passed))
+
+  module _ {P : Plan} {f end : ℕ} (span : LoopSpan P f end) (inside : s < end) where
+    pub every-fails : not outcome ≡ true → false ≡ every (statementCount P) test
+    every-fails failed = go (every (statementCount P) test) refl
+      where
+        go : (b : Bool) → every (statementCount P) test ≡ b → false ≡ b
+        go false h = refl
+        go true h = falsum (sym (sym is ∙ not-true _ failed) ∙ every-at _ test h s (omega (arith, span .bound)))
+
+    pub some-found : outcome ≡ true → true ≡ any (statementCount P) test
+    some-found found = sym (among {f = test} (s, omega (arith, span .bound), sym is ∙ found))

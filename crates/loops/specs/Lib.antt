@@ -1,2 +1,4 @@
 pub mod Tables
-pub mod Loops
+pub mod Statements
+pub mod Section
+pub mod Parallel

@@ -2,4 +2,5 @@
 pub mod kinds;
 pub mod lookup;
 pub mod parallel;
+pub mod section;
 pub mod statements;

@@ -20,7 +20,7 @@ ghost use Rattle.model.specs.Outcomes.{scan};
 ghost use Rattle.model.specs.Layout.{Plan, statementCount};
 ghost use Rattle.model.specs.Statements.{opens, loop};
 ghost use Rattle.model.specs.Parallel.{conflicts, parallelizable, loopCheck, reducesThroughPointer};
-ghost use Rattle.loops.specs.Loops.{Within, accessAt, LoopsKnown, LoopSpan, apart, conflictFree, harmless, PointersKnown, pointerReduction};
+ghost use Rattle.loops.specs.Parallel.{Within, accessAt, LoopsKnown, LoopSpan, conflictFreeWith, conflictFree, leavesParallelizable, PointersKnown, pointerReduction};
 
 // What a statement accesses: how, which region, through a centered variable or not, and with which operator.
 pub struct LoopAccess {
@@ -28,6 +28,12 @@ pub struct LoopAccess {
     pub region: usize,
     pub centered: bool,
     pub operator: usize,
+}
+
+// The statements of a loop: from its FOR to before `end`.
+pub struct LoopRange {
+    pub first: usize,
+    pub end: usize,
 }
 
 // The access of statement s.
@@ -54,7 +60,7 @@ fn loop_access(
     }
 }
 
-// Whether access a forbids access b of the same loop.
+// Whether access a conflicts with access b of the same loop.
 fn conflict(a: LoopAccess, b: LoopAccess) -> bool
     ensures { λ r. ⌜ ((P : Plan) (s t : ℕ) → a ≡ accessAt P s → b ≡ accessAt P t → r ≡ conflicts P s t) ⌝ }
 {
@@ -81,8 +87,8 @@ fn loop_end(statements: &[u8], f: usize) -> usize
     t
 }
 
-// Whether access a leaves statement t of its loop alone: t accesses nothing, or is not forbidden.
-fn is_apart(
+// Whether access a does not conflict with statement t of its loop, which may access nothing.
+fn is_conflict_free_with(
     statements: &[u8],
     operands: &[u8],
     variable_regions: &[u8],
@@ -91,29 +97,29 @@ fn is_apart(
     t: usize,
 ) -> bool
     requires { ⌜ t < 64 ⌝ }
-    ensures { λ r. ⌜ ((P : Plan) (s : ℕ) → LoopsKnown P (now (statements .entry)) (now (operands .entry)) (now («variable_regions» .entry)) (now (centered .entry)) → t < statementCount P → a ≡ accessAt P s → r ≡ apart P (loop P t) s t) ⌝ }
+    ensures { λ r. ⌜ ((P : Plan) (s : ℕ) → LoopsKnown P (now (statements .entry)) (now (operands .entry)) (now («variable_regions» .entry)) (now (centered .entry)) → t < statementCount P → a ≡ accessAt P s → r ≡ conflictFreeWith P (loop P t) s t) ⌝ }
 {
     let b = loop_access(statements, operands, variable_regions, centered, t);
     let access = b.access;
     !is_access(access) | !conflict(a, b)
 }
 
-// Whether access a forbids no access of the loop from statement f to `end`.
+// Whether access a conflicts with no access of its loop.
 fn is_conflict_free(
     statements: &[u8],
     operands: &[u8],
     variable_regions: &[u8],
     centered: &[bool],
-    f: usize,
-    end: usize,
+    range: LoopRange,
     a: LoopAccess,
 ) -> bool
-    requires { ⌜ end ≤ 64 ⌝ }
-    ensures { λ r. ⌜ ((P : Plan) (s : ℕ) → LoopsKnown P (now (statements .entry)) (now (operands .entry)) (now («variable_regions» .entry)) (now (centered .entry)) → LoopSpan P f end → a ≡ accessAt P s → r ≡ conflictFree P f s) ⌝ }
+    requires { ⌜ range .end ≤ 64 ⌝ }
+    ensures { λ r. ⌜ ((P : Plan) (s : ℕ) → LoopsKnown P (now (statements .entry)) (now (operands .entry)) (now («variable_regions» .entry)) (now (centered .entry)) → LoopSpan P (range .first) (range .end) → a ≡ accessAt P s → r ≡ conflictFree P (range .first) s) ⌝ }
 {
-    let mut t = f;
+    let end = range.end;
+    let mut t = range.first;
     while t < end {
-        if !is_apart(statements, operands, variable_regions, centered, a, t) {
+        if !is_conflict_free_with(statements, operands, variable_regions, centered, a, t) {
             return false;
         }
         t += 1;
@@ -121,19 +127,18 @@ fn is_conflict_free(
     true
 }
 
-// Whether statement s leaves its loop, from statement f to `end`, parallelizable. Only an access through a variable
-// that is not centered may forbid others.
-fn is_harmless(
+// Whether statement s leaves its loop parallelizable. Only through a variable that is not centered can an access fail to:
+// a write always does, a read or reduction if it conflicts with another access.
+fn leaves_parallelizable(
     statements: &[u8],
     operands: &[u8],
     variable_regions: &[u8],
     centered: &[bool],
-    f: usize,
-    end: usize,
+    range: LoopRange,
     s: usize,
 ) -> bool
-    requires { ⌜ (f ≤ s) × (s < end) × (end ≤ 64) ⌝ }
-    ensures { λ r. ⌜ ((P : Plan) → LoopsKnown P (now (statements .entry)) (now (operands .entry)) (now («variable_regions» .entry)) (now (centered .entry)) → LoopSpan P f end → r ≡ harmless P f s) ⌝ }
+    requires { ⌜ (range .first ≤ s) × (s < range .end) × (range .end ≤ 64) ⌝ }
+    ensures { λ r. ⌜ ((P : Plan) → LoopsKnown P (now (statements .entry)) (now (operands .entry)) (now («variable_regions» .entry)) (now (centered .entry)) → LoopSpan P (range .first) (range .end) → r ≡ leavesParallelizable P (range .first) s) ⌝ }
 {
     let a = loop_access(statements, operands, variable_regions, centered, s);
     let access = a.access;
@@ -143,24 +148,24 @@ fn is_harmless(
     if is_write(access) {
         return false;
     }
-    is_conflict_free(statements, operands, variable_regions, centered, f, end, a)
+    is_conflict_free(statements, operands, variable_regions, centered, range, a)
 }
 
-// Whether the loop from statement f to `end` is parallelizable.
+// Whether a loop is parallelizable.
 fn is_parallelizable(
     statements: &[u8],
     operands: &[u8],
     variable_regions: &[u8],
     centered: &[bool],
-    f: usize,
-    end: usize,
+    range: LoopRange,
 ) -> bool
-    requires { ⌜ end ≤ 64 ⌝ }
-    ensures { λ r. ⌜ ((P : Plan) → LoopsKnown P (now (statements .entry)) (now (operands .entry)) (now («variable_regions» .entry)) (now (centered .entry)) → LoopSpan P f end → r ≡ parallelizable P f) ⌝ }
+    requires { ⌜ range .end ≤ 64 ⌝ }
+    ensures { λ r. ⌜ ((P : Plan) → LoopsKnown P (now (statements .entry)) (now (operands .entry)) (now («variable_regions» .entry)) (now (centered .entry)) → LoopSpan P (range .first) (range .end) → r ≡ parallelizable P (range .first)) ⌝ }
 {
-    let mut s = f;
+    let end = range.end;
+    let mut s = range.first;
     while s < end {
-        if !is_harmless(statements, operands, variable_regions, centered, f, end, s) {
+        if !leaves_parallelizable(statements, operands, variable_regions, centered, range, s) {
             return false;
         }
         s += 1;
@@ -183,7 +188,8 @@ fn check_loop(
         return Outcome::Pass;
     }
     let end = loop_end(statements, f);
-    let parallel = is_parallelizable(statements, operands, variable_regions, centered, f, end);
+    let range = LoopRange { first: f, end };
+    let parallel = is_parallelizable(statements, operands, variable_regions, centered, range);
     require(parallel, Refusal::NotParallelizable(f))
 }
 

@@ -1,9 +1,9 @@
-// Section 4: the statements of the loops, checked in one pass.
+// A statement of section 4: its record, the variables before and after it, what it adds to the tables, and its check.
 use crate::kinds::defines_variable;
 use crate::kinds::kind_of;
 use crate::kinds::opens_loop;
-use crate::lookup::earlier_flag;
 use crate::lookup::earlier_byte;
+use crate::lookup::earlier_flag;
 use model::Outcome;
 use model::Refusal;
 use model::StatementKind;
@@ -11,80 +11,154 @@ use primitives::bytes::byte_at;
 use primitives::bytes::usize_of;
 use primitives::outcomes::and_then;
 use primitives::outcomes::require;
+use primitives::records::map_source;
+use primitives::records::map_target;
 ghost use mathlib.Core.Path.{_≡_};
-ghost use Prim.Native.Nat.{_<_};
-ghost use lib.ListN.{getD};
-ghost use Rattle.model.specs.Tests.{Is};
-ghost use Rattle.model.specs.Statements.{kind, definesVariable, operand, statementFormed, statementAgrees, statementCheck};
-ghost use Rattle.loops.specs.Tables.{loopParts, mapParts, statementParts, regionAt, centeredAt, variablesAfter, WorksOn, Before, Fits, Entered, StatementRead, StatementsRead};
+ghost use Prim.Native.Nat.{ℕ, _/_, _<_};
+ghost use lib.ListN.{length};
+ghost use Rattle.model.specs.Layout.{Plan};
+ghost use Rattle.model.specs.Statements.{kind, operand, operandRegion, regionBy, centeredBy, statementFormed, statementAgrees, statementCheck};
+ghost use Rattle.loops.specs.Statements.{StatementAt, StatementContext, EarlierStatements, EntryAt, variablesOf, variablesAfter};
 
-// The variables of a loop: how many there are, and the statement that defines each.
-pub struct Variables {
-    pub count: usize,
-    pub definitions: [u8; 16],
+// A record of section 4.
+pub struct Statement {
+    pub kind: StatementKind,
+    pub a: u8,
+    pub b: u8,
+    pub c: u8,
 }
 
-// Before the first FOR there is none.
-const NO_VARIABLES: Variables = Variables {
-    count: 0,
-    definitions: [0; 16],
-};
+// What the tables take of a statement: the definition of the variable that it works on, the region of the variable that
+// it defines, and whether that one is centered.
+pub struct StatementEntry {
+    pub operand: u8,
+    pub region: u8,
+    pub centered: bool,
+}
 
 // The kind of a statement.
 pub fn kind_at(statements: &[u8], s: usize) -> StatementKind
     requires { ⌜ s < 64 ⌝ }
-    ensures { λ r. ⌜ r ≡ kind (statementParts (now (statements .entry))) s ⌝ }
+    ensures { λ r. ⌜ ((P : Plan) → P .statements ≡ now (statements .entry) → r ≡ kind P s) ⌝ }
 {
     kind_of(byte_at(statements, s * 4))
 }
 
-// The number of the variable that a statement works on.
-fn operand_at(statements: &[u8], s: usize) -> usize
-    requires { ⌜ s < 64 ⌝ }
-    ensures { λ r. ⌜ r ≡ operand (statementParts (now (statements .entry))) s ⌝ }
+// The record of statement s.
+pub fn statement_at(statements: &[u8], s: usize) -> Statement
+    requires { ⌜ s < length (now statements) / 4 ⌝ }
+    ensures { λ r. ⌜ ((P : Plan) → P .statements ≡ now (statements .entry) → StatementAt P s r) ⌝ }
 {
-    let a = byte_at(statements, s * 4 + 1);
-    let b = byte_at(statements, s * 4 + 2);
-    match kind_at(statements, s) {
+    let kind = kind_of(usize_of(statements[s * 4]));
+    let a = statements[s * 4 + 1];
+    let b = statements[s * 4 + 2];
+    let c = statements[s * 4 + 3];
+    Statement { kind, a, b, c }
+}
+
+// The number of the variable that a statement works on.
+fn operand_of(statement: Statement) -> u8
+    ensures { λ r. ⌜ ((P : Plan) (s : ℕ) → StatementAt P s statement → r ≡ operand P s) ⌝ }
+{
+    let kind = statement.kind;
+    match kind {
         StatementKind::For => 0,
-        StatementKind::Load => b,
-        StatementKind::Call => b,
-        StatementKind::Copy => a,
-        StatementKind::Read => a,
-        StatementKind::Write => a,
-        StatementKind::Reduce => a,
+        StatementKind::Load => statement.b,
+        StatementKind::Call => statement.b,
+        StatementKind::Copy => statement.a,
+        StatementKind::Read => statement.a,
+        StatementKind::Write => statement.a,
+        StatementKind::Reduce => statement.a,
         StatementKind::Unknown => 0,
     }
 }
 
-// The statement that defines a variable; 0 for a number that no variable has.
-fn definition_of(variables: Variables, number: usize) -> u8
-    ensures { λ r. ⌜ r ≡ getD (variables .definitions) number 0 ⌝ }
+// The region of the variable that a statement defines, given that of the variable it copies.
+fn variable_region(maps: &[u8], statement: Statement, copied: u8) -> u8
+    ensures { λ r. ⌜ ((P : Plan) (s : ℕ) → P .maps ≡ now (maps .entry) → StatementAt P s statement → r ≡ regionBy P (kind P s) s (λ d. copied)) ⌝ }
 {
-    if number < 16 {
-        variables.definitions[number]
-    } else {
-        0
+    let kind = statement.kind;
+    let target = map_target(maps, usize_of(statement.a));
+    match kind {
+        StatementKind::For => statement.a,
+        StatementKind::Load => target as u8,
+        StatementKind::Call => target as u8,
+        StatementKind::Copy => copied,
+        StatementKind::Read => 0,
+        StatementKind::Write => 0,
+        StatementKind::Reduce => 0,
+        StatementKind::Unknown => 0,
     }
 }
 
-// Whether statement s is of a known kind with all its numbers in range and its unused bytes 0.
-fn is_formed(
-    regions: &[u8],
-    maps: &[u8],
-    statements: &[u8],
-    s: usize,
-    count: usize,
-    region: usize,
-) -> bool
-    requires { ⌜ Before (loopParts (now regions) (now maps) (now statements)) s count region ⌝ }
-    ensures { λ r. ⌜ r ≡ statementFormed (loopParts (now (regions .entry)) (now (maps .entry)) (now (statements .entry))) s ⌝ }
+// Whether the variable that a statement defines is centered, given whether the variable it copies is.
+fn is_centered(kind: StatementKind, copied: bool) -> bool
+    ensures { λ r. ⌜ ((P : Plan) (s : ℕ) → r ≡ centeredBy P kind s (λ d. copied)) ⌝ }
 {
-    let a = byte_at(statements, s * 4 + 1);
-    let b = byte_at(statements, s * 4 + 2);
-    let c = byte_at(statements, s * 4 + 3);
+    match kind {
+        StatementKind::For => true,
+        StatementKind::Load => false,
+        StatementKind::Call => false,
+        StatementKind::Copy => copied,
+        StatementKind::Read => false,
+        StatementKind::Write => false,
+        StatementKind::Reduce => false,
+        StatementKind::Unknown => false,
+    }
+}
+
+// What the tables take of statement s, from what they hold of the statements before it.
+pub fn entry_of(
+    maps: &[u8],
+    statement: Statement,
+    s: usize,
+    definitions: &[u8],
+    variable_regions: &[u8; 64],
+    centered: &[bool; 64],
+) -> StatementEntry
+    requires { ⌜ s < 64 ⌝ }
+    ensures { λ r. ⌜ ((P : Plan) → P .maps ≡ now (maps .entry) → StatementAt P s statement → EarlierStatements P s (now (definitions .entry)) (now («variable_regions» .entry)) (now (centered .entry)) → EntryAt P s r) ⌝ }
+{
+    let operand = byte_at(definitions, usize_of(operand_of(statement)));
+    let copied_region = earlier_byte(variable_regions, s, operand, 0) as u8;
+    let copied_centered = earlier_flag(centered, s, operand);
+    let region = variable_region(maps, statement, copied_region);
+    let kind = statement.kind;
+    let defines_centered = is_centered(kind, copied_centered);
+    StatementEntry {
+        operand: operand as u8,
+        region,
+        centered: defines_centered,
+    }
+}
+
+// Enters the variable that statement s defines among its loop's, and gives how many there are then: a FOR's own is the
+// first, a definition's the next. A seventeenth is not kept.
+pub fn enter_variable(definitions: &mut [u8; 16], count: usize, kind: StatementKind, s: u8) -> usize
+    requires { ⌜ length (now definitions) ≡ 16 ⌝ }
+    ensures { λ r. ⌜ (length (now (definitions .exit)) ≡ 16) × (variablesOf r (now (definitions .exit)) ≡ variablesAfter kind s (variablesOf count (now (definitions .entry)))) ⌝ }
+{
+    if opens_loop(kind) {
+        definitions[0] = s;
+        return 1;
+    }
+    if defines_variable(kind) & (count < 16) {
+        definitions[count] = s;
+        return count + 1;
+    }
+    count
+}
+
+// Whether a statement is of a known kind with all its numbers in range and its unused bytes 0.
+fn is_formed(regions: &[u8], maps: &[u8], statement: Statement, count: usize, region: usize) -> bool
+    ensures { λ r. ⌜ ((P : Plan) (s : ℕ) → P .regions ≡ now (regions .entry) → P .maps ≡ now (maps .entry) → StatementAt P s statement → StatementContext P s count region → r ≡ statementFormed P s) ⌝ }
+{
+    let kind = statement.kind;
+    let a = statement.a as usize;
+    let b = statement.b as usize;
+    let c = statement.c as usize;
     let fields = byte_at(regions, region);
-    match kind_at(statements, s) {
+    match kind {
         StatementKind::For => (a < regions.len()) & ((b == 0) & (c == 0)),
         StatementKind::Load => (a < maps.len() / 3) & ((b < count) & ((count < 16) & (c < fields))),
         StatementKind::Call => (a < maps.len() / 3) & ((b < count) & ((count < 16) & (c == 0))),
@@ -97,13 +171,12 @@ fn is_formed(
 }
 
 // Whether the map of a LOAD or CALL starts from the region of the variable that it follows.
-fn agrees_with_map(maps: &[u8], statements: &[u8], s: usize, region: usize) -> bool
-    requires { ⌜ WorksOn (mapParts (now maps) (now statements)) s region ⌝ }
-    ensures { λ r. ⌜ r ≡ statementAgrees (mapParts (now (maps .entry)) (now (statements .entry))) s ⌝ }
+fn agrees_with_map(maps: &[u8], statement: Statement, region: usize) -> bool
+    ensures { λ r. ⌜ ((P : Plan) (s : ℕ) → P .maps ≡ now (maps .entry) → StatementAt P s statement → region ≡ operandRegion P s → r ≡ statementAgrees P s) ⌝ }
 {
-    let map = byte_at(statements, s * 4 + 1);
-    let source = byte_at(maps, map * 3);
-    match kind_at(statements, s) {
+    let kind = statement.kind;
+    let source = map_source(maps, usize_of(statement.a));
+    match kind {
         StatementKind::For => true,
         StatementKind::Load => region == source,
         StatementKind::Call => region == source,
@@ -115,139 +188,23 @@ fn agrees_with_map(maps: &[u8], statements: &[u8], s: usize, region: usize) -> b
     }
 }
 
-// The check of statement s.
-fn check_statement(
+// The check of statement s, given the number of its loop's variables and the region of the one that it works on.
+pub fn check_statement(
     regions: &[u8],
     maps: &[u8],
-    statements: &[u8],
+    statement: Statement,
     s: usize,
     count: usize,
     region: usize,
 ) -> Outcome
-    requires { ⌜ Before (loopParts (now regions) (now maps) (now statements)) s count region ⌝ }
-    ensures { λ r. ⌜ r ≡ statementCheck (loopParts (now (regions .entry)) (now (maps .entry)) (now (statements .entry))) s ⌝ }
+    requires { ⌜ s < 64 ⌝ }
+    ensures { λ r. ⌜ ((P : Plan) → P .regions ≡ now (regions .entry) → P .maps ≡ now (maps .entry) → StatementAt P s statement → StatementContext P s count region → r ≡ statementCheck P s) ⌝ }
 {
     let place = 4 * 256 + s;
-    let formed = is_formed(regions, maps, statements, s, count, region);
-    let agrees = agrees_with_map(maps, statements, s, region);
+    let formed = is_formed(regions, maps, statement, count, region);
+    let agrees = agrees_with_map(maps, statement, region);
     and_then(
         require(formed, Refusal::InvalidRecord(place)),
         require(agrees, Refusal::RegionMismatch(place)),
     )
-}
-
-// The region of the variable that statement s defines, given that of the variable it copies.
-fn variable_region(maps: &[u8], statements: &[u8], s: usize, copied: u8) -> u8
-    requires { ⌜ s < 64 ⌝ }
-    ensures { λ r. ⌜ r ≡ regionAt (mapParts (now (maps .entry)) (now (statements .entry))) s (λ d. copied) ⌝ }
-{
-    let a = byte_at(statements, s * 4 + 1);
-    let target = byte_at(maps, a * 3 + 1);
-    match kind_at(statements, s) {
-        StatementKind::For => a as u8,
-        StatementKind::Load => target as u8,
-        StatementKind::Call => target as u8,
-        StatementKind::Copy => copied,
-        StatementKind::Read => 0,
-        StatementKind::Write => 0,
-        StatementKind::Reduce => 0,
-        StatementKind::Unknown => 0,
-    }
-}
-
-// Whether the variable that statement s defines is centered, given whether the variable it copies is.
-fn is_centered(statements: &[u8], s: usize, copied: bool) -> bool
-    requires { ⌜ s < 64 ⌝ }
-    ensures { λ r. ⌜ r ≡ centeredAt (statementParts (now (statements .entry))) s (λ d. copied) ⌝ }
-{
-    match kind_at(statements, s) {
-        StatementKind::For => true,
-        StatementKind::Load => false,
-        StatementKind::Call => false,
-        StatementKind::Copy => copied,
-        StatementKind::Read => false,
-        StatementKind::Write => false,
-        StatementKind::Reduce => false,
-        StatementKind::Unknown => false,
-    }
-}
-
-// The variables after a statement: a FOR's own is the first, a definition's the next.
-fn variables_after(variables: Variables, kind: StatementKind, s: u8) -> Variables
-    requires { ⌜ (Is (definesVariable kind) → variables .count < 16) ⌝ }
-    ensures { λ r. ⌜ r ≡ variablesAfter kind s variables ⌝ }
-{
-    let mut after = variables;
-    if opens_loop(kind) {
-        after.definitions[0] = s;
-        after.count = 1;
-        return after;
-    }
-    if defines_variable(kind) {
-        let next = variables.count;
-        after.definitions[next] = s;
-        after.count = next + 1;
-    }
-    after
-}
-
-// The check of statement s, which is first entered into the tables.
-fn read_statement(
-    regions: &[u8],
-    maps: &[u8],
-    statements: &[u8],
-    s: usize,
-    variables: Variables,
-    operands: &mut [u8; 64],
-    variable_regions: &mut [u8; 64],
-    centered: &mut [bool; 64],
-) -> Outcome
-    requires { ⌜ Entered (loopParts (now regions) (now maps) (now statements)) s variables (now operands) (now «variable_regions») (now centered) ⌝ }
-    ensures { λ r. ⌜ StatementRead (loopParts (now (regions .entry)) (now (maps .entry)) (now (statements .entry))) s r (now (operands .exit)) (now («variable_regions» .exit)) (now (centered .exit)) ⌝ }
-{
-    let defined = definition_of(variables, operand_at(statements, s));
-    operands[s] = defined;
-    let operand = defined as usize;
-    let copied_region = earlier_byte(variable_regions, s, operand, 0) as u8;
-    variable_regions[s] = variable_region(maps, statements, s, copied_region);
-    let copied_centered = earlier_flag(centered, s, operand);
-    centered[s] = is_centered(statements, s, copied_centered);
-    let region = usize_of(variable_regions[operand]);
-    check_statement(regions, maps, statements, s, variables.count, region)
-}
-
-// The check of section 4. The tables take, for each statement, the definition of the variable that it works on,
-// the region of the variable that it defines, and whether that one is centered.
-pub fn check_statements(
-    regions: &[u8],
-    maps: &[u8],
-    statements: &[u8],
-    operands: &mut [u8; 64],
-    variable_regions: &mut [u8; 64],
-    centered: &mut [bool; 64],
-) -> Outcome
-    requires { ⌜ Fits (now statements) (now operands) (now «variable_regions») (now centered) ⌝ }
-    ensures { λ r. ⌜ StatementsRead (loopParts (now (regions .entry)) (now (maps .entry)) (now (statements .entry))) r (now (operands .exit)) (now («variable_regions» .exit)) (now (centered .exit)) ⌝ }
-{
-    let mut variables = NO_VARIABLES;
-    let mut s = 0;
-    while s < statements.len() / 4 {
-        match read_statement(
-            regions,
-            maps,
-            statements,
-            s,
-            variables,
-            operands,
-            variable_regions,
-            centered,
-        ) {
-            Outcome::Pass => {}
-            Outcome::Refuse(refusal) => return Outcome::Refuse(refusal),
-        }
-        let kind = kind_at(statements, s);
-        variables = variables_after(variables, kind, s as u8);
-        s += 1;
-    }
-    Outcome::Pass
 }

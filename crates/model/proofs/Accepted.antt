@@ -113,6 +113,10 @@ pub record LaidOut (p : Bytes) : Type 0 where
   pub section : (n : ℕ) → n < 7 → Section p n
   pub nothing-after : length p ≡ boundary p 7
 
+-- a section that ends inside begins inside
+pub begins-inside : (s : Bytes) (n : ℕ) → boundary s (suc n) ≤ length s → boundary s n + 2 ≤ length s
+begins-inside s n h = unfold boundary in omega arith
+
 pub length-body : (s : Bytes) (n : ℕ) → boundary s (suc n) ≤ length s → length (body s n) ≡ u16 s (boundary s n)
 unfolding body boundary
 length-body s n h = simp (length-take, length-drop) (omega arith)

@@ -8,13 +8,13 @@ use Rattle.model.specs.Partitions.{union, intersection, difference, imag
 use Rattle.model.specs.Layout.{shapes, shapeOf, sectionCheck, layoutCheck}
 use Rattle.model.specs.Statements.{kindOf, opensLoop, definesVariable, accessOf, isAccess, kind, opens, defines, accesses, loopBefore, variables, definition, operandBy, operand, operandDefinition, regionBy, variableRegion, centeredBy, centered, statementFormedBy, statementFormed, statementAgreesBy, statementAgrees, statementCheck}
 use Rattle.model.specs.Parallel.{isRead, isWrite, isReduce, reads, writes, reduces, uncentered, accessOfLoop, sameTarget, conflicts, parallelizable, loopCheck, reducesThroughPointer}
-use Rattle.model.specs.Nodes.{nodeFormedRows, nodeFormed, nodeRegionRows, nodeRegionStep, nodeRegion, nodeAgreesRows, nodeAgrees, sameNode, duplicateNode, nodeCheck}
+use Rattle.model.specs.Nodes.{nodeKindOf, nodeKindAt, nodeFormedBy, nodeFormed, nodeRegionBy, nodeRegionStep, nodeRegion, nodeAgreesBy, nodeAgrees, sameNode, duplicateNode, nodeCheck}
 use Rattle.model.specs.Lemmas.{lemmas, lemmaRow, inUse, isSubset, isDisjoint, isComplete, concludesSubset, concludesDisjoint, concludesComplete, operandOf, licences, licence, stepFormed, stepLicensed, stepCheck}
 use Rattle.model.specs.Needs.{hasSymbol, symbol, symbolRegion, assignmentCountCheck, assignmentCheck, imageNode, boundBy, bound, loopNeedsMet, accessNeedMet, needCheck}
 use Rattle.model.specs.Declarations.{regionCheck, mapCheck, suppliedCheck}
 use Rattle.model.specs.Verdict.{recordsCheck, planCheck, verdict}
 use Rattle.model.specs.DataSets.{size, entryStart, entry, low, past, mapsTo, pieceBytes, memberStart, suppliedBit, supplied, entryFits, entriesCheck, suppliedDisjoint, suppliedComplete, padBitsClear, declarationsHold, wellFramed, dataCheck}
-use Rattle.model.specs.Membership.{equal, operators, nodeSets, member}
+use Rattle.model.specs.Membership.{equal, nodeSetsBy, nodeSets, member}
 use Rattle.model.specs.Words.{bit, holds, fromBits, word, store}
 use Rattle.model.specs.Evaluation.{evaluationCheck, evaluation, nodeWord, filledWords}
 
@@ -26,11 +26,11 @@ unfolding
     kindOf opensLoop definesVariable accessOf isAccess kind opens defines accesses loopBefore variables definition operandBy operand
     operandDefinition regionBy variableRegion centeredBy centered statementFormedBy statementFormed statementAgreesBy statementAgrees
     isRead isWrite isReduce reads writes reduces uncentered accessOfLoop sameTarget conflicts parallelizable reducesThroughPointer
-    nodeFormedRows nodeFormed nodeRegionRows nodeRegionStep nodeRegion nodeAgreesRows nodeAgrees sameNode duplicateNode
+    nodeKindOf nodeKindAt nodeFormedBy nodeFormed nodeRegionBy nodeRegionStep nodeRegion nodeAgreesBy nodeAgrees sameNode duplicateNode
     lemmas lemmaRow inUse isSubset isDisjoint isComplete concludesSubset concludesDisjoint concludesComplete operandOf licences licence
     stepFormed stepLicensed hasSymbol symbol symbolRegion imageNode boundBy bound loopNeedsMet accessNeedMet
     union intersection difference image preimage contiguous equalStart
-    size entryStart entry low past mapsTo pieceBytes memberStart suppliedBit supplied equal operators nodeSets member
+    size entryStart entry low past mapsTo pieceBytes memberStart suppliedBit supplied equal nodeSetsBy nodeSets member
     entryFits entriesCheck suppliedDisjoint suppliedComplete padBitsClear declarationsHold wellFramed dataCheck
     evaluationCheck evaluation nodeWord filledWords bit holds fromBits word store
 definitions = tt

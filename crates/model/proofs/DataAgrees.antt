@@ -1,11 +1,10 @@
 -- A data set fits exactly where its checks pass, and a refusal of it holds as the table says. Assumes nothing.
-use Prim.Native.Nat.{ℕ, suc, _+_, _-_, _*_, _≤_, _<_}
+use Prim.Native.Nat.{ℕ, _+_, _-_, _*_, _≤_, _<_}
 use mathlib.Core.Path.{_≡_, refl, sym, _∙_}
 use mathlib.Core.Logic.{_⊎_, inl, inr, _↔_}
 use native.Mathlib.Omega.{arith}
-use lib.ListN.{length}
 use Rattle.model.specs.Tests.{Is, _and_, non, pick, _==_, _<?_, _≤?_}
-use Rattle.model.specs.Bytes.{Bytes, boundary}
+use Rattle.model.specs.Bytes.{Bytes}
 use Rattle.model.specs.Outcomes.{require, scan}
 use Rattle.model.specs.Partitions.{PairwiseDisjoint, Covering}
 use Rattle.model.specs.Layout.{Plan, mapCount, suppliedCount, source, target, totality, suppliedRegion}
@@ -19,6 +18,7 @@ use Rattle.model.specs.declared.Outcome.{Outcome}
 use Rattle.model.specs.declared.Outcome.the-variants.{Pass, Refuse}
 use Rattle.model.proofs.Tests.{lacks, refuted, both, pair, implied, implies, same, same!, less, less!, most, most!, which, which!, some-of, among, every-at, every-of, pick-true, pick-false, fails, split}
 use Rattle.model.proofs.Outcomes.{then-pass, passes-then, then-cases, require-pass, required, require-refuse, scan-pass, passes-scan, scan-refuse}
+use Rattle.model.proofs.Accepted.{begins-inside}
 
 module _ (P : Plan) (d : Bytes) where
   frame-plainly : Is (wellFramed P d) → WellFramed P d
@@ -51,13 +51,10 @@ module _ (P : Plan) (d : Bytes) where
   unfolding wellFramed
   test-frame f =
       pair (most! (f .some-byte)) (pair (same! (f .edition))
-      (pair (every-of 4 _ (λ n lt. pair (most! (begins n (f .sections-end n lt))) (most! (f .sections-end n lt)))) (pair (same! (f .nothing-after))
+      (pair (every-of 4 _ (λ n lt. pair (most! (begins-inside d n (f .sections-end n lt))) (most! (f .sections-end n lt)))) (pair (same! (f .nothing-after))
       (pair (same! (f .one-piece-count)) (pair (most! (f .piece-count .0)) (pair (most! (f .piece-count .1))
       (pair (same! (f .size-each)) (pair (every-of _ _ (λ r lt. most! (f .sizes r lt)))
       (pair (same! (f .entry-each)) (same! (f .member-bytes)))))))))))
-    where
-      begins : (n : ℕ) → boundary d (suc n) ≤ length d → boundary d n + 2 ≤ length d
-      begins n h = unfold boundary in omega arith
 
   pub frame-fits : Is (wellFramed P d) ↔ WellFramed P d
   frame-fits = (frame-plainly, test-frame)

@@ -12,9 +12,9 @@ use Rattle.model.specs.Encoding.{framedBytes}
 use Rattle.model.specs.Recursion.{below, levels, course}
 use Rattle.model.specs.Partitions.{union, intersection, image, contiguous, equalStart}
 use Rattle.model.specs.Layout.{Plan, planOf, nodeCount}
-use Rattle.model.specs.Nodes.{nodeRegionRows, nodeRegionStep, nodeRegion}
+use Rattle.model.specs.Nodes.{nodeKindOf, nodeKindAt, nodeRegionBy, nodeRegionStep, nodeRegion}
 use Rattle.model.specs.DataSets.{DataSet, dataOf, pieces, size, entryStart, entry, low, past, mapsTo, pieceBytes, memberStart, suppliedBit, supplied}
-use Rattle.model.specs.Membership.{equal, operators, nodeSets, member}
+use Rattle.model.specs.Membership.{equal, nodeSetsBy, nodeSets, member}
 use Rattle.model.specs.Words.{fromBits, word, store}
 use Rattle.model.specs.Evaluation.{evaluation, nodeWord, filledWords}
 use Rattle.model.specs.AcceptedPlans.{Facts}
@@ -106,8 +106,8 @@ module _ (P : Plan) (D : DataSet) where
 pub example-words : filledWords (planOf examplePlan) (dataOf (exampleData 7)) (replicate 192 0) ≡ exampleWords
 unfolding
     boundary body _and_ _or_ _==_ _<?_ _≤?_ any pick below levels course
-    nodeRegionRows nodeRegionStep nodeRegion union intersection image contiguous equalStart
-    size entryStart entry low past mapsTo pieceBytes memberStart suppliedBit supplied equal operators nodeSets member
+    nodeKindOf nodeKindAt nodeRegionBy nodeRegionStep nodeRegion union intersection image contiguous equalStart
+    size entryStart entry low past mapsTo pieceBytes memberStart suppliedBit supplied equal nodeSetsBy nodeSets member
     filledWords fromBits store
 example-words =
     store-same (replicate 192 0) 0 192 _ _

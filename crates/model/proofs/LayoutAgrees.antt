@@ -16,7 +16,7 @@ use Rattle.model.specs.Answers.{refusalReport}
 use Rattle.model.specs.GivenWhen.{PlanGivenWhen, empty, truncated, unknown-edition, trailing-bytes, invalid-length}
 use Rattle.model.specs.declared.Refusal.{Refusal}
 use Rattle.model.specs.declared.Outcome.the-variants.{Pass, Refuse}
-use Rattle.model.proofs.Accepted.{LaidOut, length-body, section-pass, laid-out, layout-pass}
+use Rattle.model.proofs.Accepted.{LaidOut, begins-inside, length-body, section-pass, laid-out, layout-pass}
 use Rattle.model.proofs.Outcomes.{then-cases, require-pass, required, require-refuse, scan-refuse}
 
 -- the length test of the section that stands after n others
@@ -109,7 +109,7 @@ layout-read p = (plainly, λ l. layout-pass p (by-section l))
               let m = both (section-length n (length (body p n)) lt .1 (l .section-lengths n lt)) in
               let ends = l .sections-end n lt in
               record {
-                starts-inside = begins n ends;
+                starts-inside = begins-inside p n ends;
                 ends-inside = ends;
                 body-length = length-body p n ends;
                 whole-records = whole-iff _ _ .1 (same (m .0));
@@ -118,9 +118,6 @@ layout-read p = (plainly, λ l. layout-pass p (by-section l))
               };
           nothing-after = l .nothing-after;
         }
-      where
-        begins : (n : ℕ) → boundary p (suc n) ≤ length p → boundary p n + 2 ≤ length p
-        begins n h = unfold boundary in omega arith
 
 -- a test of an order that fails
 pub beyond : {a b : ℕ} → (Is (a ≤? b) → ⊥) → b < a
@@ -146,7 +143,7 @@ module _ (p : Bytes) (r : Refusal) where
       ended k = let m : ¬ (boundary p (suc n) ≤ length p) = k in omega arith
 
       within : boundary p (suc n) ≤ length p → Is (boundary p n + 2 ≤? length p and boundary p (suc n) ≤? length p)
-      within ends = let l : boundary p n + 2 ≤ length p = unfold boundary in omega arith in pair (most! l) (most! ends)
+      within ends = pair (most! (begins-inside p n ends)) (most! ends)
 
   -- a section begins within the bytes, where those before it pass
   starts : 1 ≤ length p → (n : ℕ) → ((l : ℕ) → 0 ≤ l → l < n → sectionCheck p l ≡ Pass) → n < 7 → boundary p n ≤ length p

@@ -35,6 +35,7 @@ pub mod Demand2Loops
 pub mod GivenWhen
 pub mod FirstMet
 pub mod EvaluationPromise
+pub mod JudgementPromise
 pub mod Demand2
 pub mod Packed
 pub mod Lists

@@ -2,23 +2,31 @@
 -- region. By the law of course-of-values recursion. Assumes nothing.
 use Prim.Native.Nat.{ℕ, _≤_, _<_}
 use mathlib.Core.Path.{_≡_, refl, _∙_}
+use mathlib.Core.List.{[], _∷_}
 use mathlib.Core.Bool.{Bool, true, false}
 use native.Mathlib.Omega.{arith}
-use lib.ListN.{getD, List·getD-eq-default}
+use lib.ListN.{List·getD-eq-default}
 use lib.Dec.{ltb}
 use borrow.Author.Tests.{ltb-true, ltb-false}
 use Rattle.model.specs.Tests.{Is, _and_, _==_, _<?_}
 use Rattle.model.specs.Recursion.{below}
 use Rattle.model.specs.Partitions.{Partition, empty, union, intersection, difference, image, preimage}
 use Rattle.model.specs.Layout.{Plan, regionCount, mapCount, suppliedCount, nodeCount, source, target, suppliedRegion, nodeKind, nodeA, nodeB}
-use Rattle.model.specs.Nodes.{SUPPLIED, EQUAL, UNION, INTERSECTION, DIFFERENCE, IMAGE, PREIMAGE, nodeFormedRows, nodeFormed, nodeRegionRows, nodeRegionStep, nodeRegion, nodeAgreesRows, nodeAgrees}
+use Rattle.model.specs.Nodes.{SUPPLIED, EQUAL, UNION, INTERSECTION, DIFFERENCE, IMAGE, PREIMAGE, nodeKindOf, nodeKindAt, nodeFormedBy, nodeFormed, nodeRegionBy, nodeRegionStep, nodeRegion, nodeAgreesBy, nodeAgrees}
 use Rattle.model.specs.DataSets.{DataSet, pieces, size, mapsTo, supplied}
-use Rattle.model.specs.Membership.{equal, operators, nodeSets, member}
+use Rattle.model.specs.Membership.{equal, nodeSetsBy, nodeSets, member}
 use Rattle.model.specs.AcceptedPlans.{Facts}
+use Rattle.model.specs.declared.NodeKind.{NodeKind}
+use Rattle.model.specs.declared.NodeKind.the-variants.{Supplied, Equal, Union, Intersection, Difference, Image, Preimage, Unknown}
 use Rattle.model.proofs.Tests.{falsum, both, same, less, _also_, at-each}
 use Rattle.model.proofs.Recursion.{below-at, course-law, by-earlier}
 use Rattle.model.proofs.Partitions.{Within, subset-within, union-within, intersection-subset-left, difference-subset, image-within, preimage-within, contiguous-within}
 use Rattle.model.proofs.Fitting.{Fit}
+
+-- a byte above 6 stands for no kind
+pub unknown-kind : {k : ℕ} → 7 ≤ k → nodeKindOf k ≡ Unknown
+unfolding nodeKindOf
+unknown-kind h = List·getD-eq-default (Supplied ∷ Equal ∷ Union ∷ Intersection ∷ Difference ∷ Image ∷ Preimage ∷ []) Unknown h
 
 -- a node, by its kind
 module _ (P : Plan) (D : DataSet) (j : ℕ) where
@@ -66,17 +74,17 @@ module _ (P : Plan) (D : DataSet) (j : ℕ) where
   abbrev pub PreimageNode : Type 0
   PreimageNode = OneOperand (target P) (source P) (preimage (size D (target P (nodeB P j))) (mapsTo P D (nodeB P j)))
 
--- what the tables of kinds say of a node, at its kind
-record Row (P : Plan) (D : DataSet) (j kind : ℕ) : Type 0 where
-  formed : Is (getD (nodeFormedRows P) kind (λ k. false) j)
-  agrees : Is (getD (nodeAgreesRows P) kind (λ k. false) j)
-  holds : member P D j ≡ getD (operators P D) kind (λ a b t. empty) (nodeA P j) (nodeB P j) (below empty j (member P D))
-  region : nodeRegion P j ≡ getD (nodeRegionRows P) kind (λ a b t. 0) (nodeA P j) (nodeB P j) (below 0 j (nodeRegion P))
+-- what its kind says of a node
+record OfKind (P : Plan) (D : DataSet) (j : ℕ) (kind : NodeKind) : Type 0 where
+  formed : Is (nodeFormedBy P kind j)
+  agrees : Is (nodeAgreesBy P kind j)
+  holds : member P D j ≡ nodeSetsBy P D kind j (below empty j (member P D))
+  region : nodeRegion P j ≡ nodeRegionBy P kind j (below 0 j (nodeRegion P))
 
 module _ (P : Plan) (D : DataSet) (F : Facts P) (j : ℕ) (lt : j < nodeCount P) where
-  row : (kind : ℕ) → nodeKind P j ≡ kind → Row P D j kind
-  unfolding nodeFormed nodeAgrees member nodeSets nodeRegion nodeRegionStep
-  row kind is =
+  of-kind : (byte : ℕ) → nodeKind P j ≡ byte → OfKind P D j (nodeKindOf byte)
+  unfolding nodeFormed nodeAgrees member nodeSets nodeRegion nodeRegionStep nodeKindAt
+  of-kind byte is =
       record {
         formed = rw is at (both (F .node-formed j lt) .1);
         agrees = rw is at (F .node-agrees j lt);
@@ -122,32 +130,32 @@ module _ (P : Plan) (D : DataSet) (F : Facts P) (j : ℕ) (lt : j < nodeCount P)
       }
 
   pub supplied-node : nodeKind P j ≡ SUPPLIED → SuppliedNode P D j
-  unfolding nodeFormedRows operators nodeRegionRows
-  supplied-node k = let r = row SUPPLIED k in record { holds = r .holds; listed = less (both (r .formed) .0); region = r .region }
+  unfolding nodeKindOf nodeFormedBy nodeSetsBy nodeRegionBy
+  supplied-node k = let r = of-kind SUPPLIED k in record { holds = r .holds; listed = less (both (r .formed) .0); region = r .region }
 
   pub equal-node : nodeKind P j ≡ EQUAL → EqualNode P D j
-  unfolding nodeFormedRows operators nodeRegionRows
-  equal-node k = let r = row EQUAL k in record { holds = r .holds; listed = less (both (r .formed) .0); region = r .region }
+  unfolding nodeKindOf nodeFormedBy nodeSetsBy nodeRegionBy
+  equal-node k = let r = of-kind EQUAL k in record { holds = r .holds; listed = less (both (r .formed) .0); region = r .region }
 
   pub union-node : nodeKind P j ≡ UNION → UnionNode P D j
-  unfolding nodeFormedRows nodeAgreesRows operators nodeRegionRows
-  union-node k = let r = row UNION k in two-operands union (r .formed) (r .agrees) (r .holds) (r .region)
+  unfolding nodeKindOf nodeFormedBy nodeAgreesBy nodeSetsBy nodeRegionBy
+  union-node k = let r = of-kind UNION k in two-operands union (r .formed) (r .agrees) (r .holds) (r .region)
 
   pub intersection-node : nodeKind P j ≡ INTERSECTION → IntersectionNode P D j
-  unfolding nodeFormedRows nodeAgreesRows operators nodeRegionRows
-  intersection-node k = let r = row INTERSECTION k in two-operands intersection (r .formed) (r .agrees) (r .holds) (r .region)
+  unfolding nodeKindOf nodeFormedBy nodeAgreesBy nodeSetsBy nodeRegionBy
+  intersection-node k = let r = of-kind INTERSECTION k in two-operands intersection (r .formed) (r .agrees) (r .holds) (r .region)
 
   pub difference-node : nodeKind P j ≡ DIFFERENCE → DifferenceNode P D j
-  unfolding nodeFormedRows nodeAgreesRows operators nodeRegionRows
-  difference-node k = let r = row DIFFERENCE k in two-operands difference (r .formed) (r .agrees) (r .holds) (r .region)
+  unfolding nodeKindOf nodeFormedBy nodeAgreesBy nodeSetsBy nodeRegionBy
+  difference-node k = let r = of-kind DIFFERENCE k in two-operands difference (r .formed) (r .agrees) (r .holds) (r .region)
 
   pub image-node : nodeKind P j ≡ IMAGE → ImageNode P D j
-  unfolding nodeFormedRows nodeAgreesRows operators nodeRegionRows
-  image-node k = let r = row IMAGE k in one-operand (source P) (target P) _ (r .formed) (r .agrees) (r .holds) (r .region)
+  unfolding nodeKindOf nodeFormedBy nodeAgreesBy nodeSetsBy nodeRegionBy
+  image-node k = let r = of-kind IMAGE k in one-operand (source P) (target P) _ (r .formed) (r .agrees) (r .holds) (r .region)
 
   pub preimage-node : nodeKind P j ≡ PREIMAGE → PreimageNode P D j
-  unfolding nodeFormedRows nodeAgreesRows operators nodeRegionRows
-  preimage-node k = let r = row PREIMAGE k in one-operand (target P) (source P) _ (r .formed) (r .agrees) (r .holds) (r .region)
+  unfolding nodeKindOf nodeFormedBy nodeAgreesBy nodeSetsBy nodeRegionBy
+  preimage-node k = let r = of-kind PREIMAGE k in one-operand (target P) (source P) _ (r .formed) (r .agrees) (r .holds) (r .region)
 
 -- a node is of one of the seven kinds
 pub data NodeView (P : Plan) (D : DataSet) (j : ℕ) : Type 0 where
@@ -161,13 +169,12 @@ pub data NodeView (P : Plan) (D : DataSet) (j : ℕ) : Type 0 where
 
 module _ (P : Plan) (D : DataSet) (F : Facts P) where
   pub kind-known : (j : ℕ) → j < nodeCount P → nodeKind P j < 7
-  unfolding nodeFormed nodeFormedRows
+  unfolding nodeFormed nodeKindAt nodeFormedBy
   kind-known j lt = go (ltb (nodeKind P j) 7) refl
     where
       go : (b : Bool) → ltb (nodeKind P j) 7 ≡ b → nodeKind P j < 7
       go true e = ltb-true _ _ e
-      go false e =
-          falsum (rw (List·getD-eq-default (nodeFormedRows P) (λ k. false) (ltb-false _ _ e)) at (both (F .node-formed j lt) .1))
+      go false e = falsum (rw (unknown-kind (ltb-false _ _ e)) at (both (F .node-formed j lt) .1))
 
   pub view : (j : ℕ) → j < nodeCount P → NodeView P D j
   view j lt =

@@ -59,6 +59,13 @@ unfolding non
 failing {a = true} h = falsum (sym h)
 failing {a = false} h = refl
 
+-- tests that pass together
+pub same-truth : {a b : Bool} → (Is a → Is b) → (Is b → Is a) → a ≡ b
+same-truth {a = true} {b = true} f g = refl
+same-truth {a = true} {b = false} f g = falsum (f refl)
+same-truth {a = false} {b = true} f g = falsum (g refl)
+same-truth {a = false} {b = false} f g = refl
+
 -- an implication, as a test
 pub implied : {a b : Bool} → Is (non a or b) → Is a → Is b
 implied h k = elim (either h) [ inl n ↦ absurd (lacks n k) | inr y ↦ y ]

@@ -18,6 +18,17 @@ use Rattle.model.specs.declared.Refusal.the-variants.{OutputTooSmall}
 abbrev pub wordsNeeded : Plan → DataSet → ℕ
 wordsNeeded P D = nodeCount P * pieces D * 8
 
+-- plan and data set without the output, "checks first": whoever brings words enough for every plan is refused for nothing else
+unfoldable pub inputsCheck : Bytes → Bytes → Outcome
+inputsCheck p d = planCheck p then dataCheck (planOf p) d
+
+unfoldable pub judgement : Bytes → Bytes → Answer
+judgement p d = conclude (inputsCheck p d) (accepted (planOf p))
+
+-- words enough for every plan and data set: 48 nodes of 16 pieces of 8 words
+abbrev pub MOST_WORDS : ℕ
+MOST_WORDS = 6144
+
 -- Narrow: "fewer words lent than nodes × N × 8"
 abbrev pub outputCheck : Plan → DataSet → ℕ → Outcome
 outputCheck P D lent = require (wordsNeeded P D ≤? lent) (OutputTooSmall (wordsNeeded P D))

@@ -41,6 +41,10 @@ pub record Shape : Type 0 where
 abbrev pub shape : ℕ → ℕ → ℕ → Shape
 shape width fewest most = record { width = width; fewest = fewest; most = most }
 
+-- "Seven sections follow"
+abbrev pub SECTIONS : ℕ
+SECTIONS = 7
+
 -- "record bytes", "most" and "least 1", section by section
 unfoldable pub shapes : List Shape
 shapes = shape 1 1 16 ∷ shape 3 0 16 ∷ shape 2 0 8 ∷ shape 4 0 64 ∷ shape 4 0 48 ∷ shape 1 0 64 ∷ shape 5 0 128 ∷ []
@@ -64,8 +68,8 @@ unfoldable pub layoutCheck : Bytes → Outcome
 layoutCheck p =
     require (1 ≤? length p) (Truncated 0)
     then require (byte p 0 == 1) UnknownEdition
-    then scan (sectionCheck p) 0 7
-    then require (length p ≤? boundary p 7) (TrailingBytes (boundary p 7))
+    then scan (sectionCheck p) 0 SECTIONS
+    then require (length p ≤? boundary p SECTIONS) (TrailingBytes (boundary p SECTIONS))
 
 -- the numbers of records, and the bytes of each
 module _ (P : Plan) where

@@ -1,4 +1,4 @@
--- What the two entry points promise, for all inputs: the contracts of `check` and `evaluate` cite these records.
+-- What the entry points promise, for all inputs: the contracts of `check`, `evaluate` and `judge` cite these records.
 use Prim.Native.Nat.{ℕ, _+_, _*_, _/_, _≤_, _<_}
 use mathlib.Core.Path.{_≡_}
 use mathlib.Core.Logic.{_↔_}
@@ -11,10 +11,11 @@ use Rattle.model.specs.Bytes.{Bytes, body}
 use Rattle.model.specs.Layout.{planOf, statementCount, nodeCount}
 use Rattle.model.specs.Nodes.{nodeRegion}
 use Rattle.model.specs.Verdict.{verdict}
-use Rattle.model.specs.DataSets.{dataOf, pieces, size}
+use Rattle.model.specs.DataSets.{dataOf, pieces, size, dataCheck}
 use Rattle.model.specs.Membership.{member}
 use Rattle.model.specs.Words.{holds}
-use Rattle.model.specs.Evaluation.{evaluation, wordsAfter}
+use Rattle.model.specs.Evaluation.{judgement, evaluation, wordsAfter}
+use Rattle.model.specs.AcceptedPlans.{Facts, Limits}
 use Rattle.model.specs.LoopRelations.{SymbolsBefore}
 use Rattle.model.specs.PlainPlan.{WellFormed, Parallelizable, Licensed, Concluded}
 use Rattle.model.specs.PlainData.{Fits}
@@ -24,6 +25,7 @@ use Rattle.model.specs.PlainSets.{OperatorSets}
 use Rattle.model.specs.Legal.{Legal}
 use Rattle.model.specs.declared.Refusal.{Refusal}
 use Rattle.model.specs.declared.Answer.{Answer}
+use Rattle.model.specs.declared.Outcome.the-variants.{Pass}
 use Rattle.model.specs.declared.Answer.the-variants.{Accepted, Refused}
 
 -- an answer is an acceptance
@@ -85,3 +87,19 @@ pub record EvaluationPromise (p d : Bytes) (old new : List ℕ) (r : Answer) : T
       holds new ((j * pieces (dataOf d) + i) * 8) e ≡ false
   -- demand 3
   pub legal : Accepts r → Legal p d new
+
+-- what is known of a plan and a data set that were accepted together
+pub record AcceptedInputs (p d : Bytes) : Type 0 where
+  pub facts : Facts (planOf p)
+  pub limits : Limits (planOf p)
+  pub fits : dataCheck (planOf p) d ≡ Pass
+
+-- judging plan p and data set d into words enough for every plan, which held `old`, answers r and leaves `new`
+pub record JudgementPromise (p d : Bytes) (old new : List ℕ) (r : Answer) : Type 0 where
+  -- the words lent play no part: Narrow is never given
+  pub answer : report r ≡ report (judgement p d)
+  -- otherwise it is evaluating: answer, words, sets and demand 3
+  pub evaluates : EvaluationPromise p d old new r
+  pub inputs : Accepts r → AcceptedInputs p d
+  -- there are as many words as before
+  pub room : length new ≡ length old

@@ -55,6 +55,18 @@ pub enum StatementKind {
     Unknown,
 }
 
+// The kinds of section 5's nodes, in the order of their bytes.
+pub enum NodeKind {
+    Supplied,
+    Equal,
+    Union,
+    Intersection,
+    Difference,
+    Image,
+    Preimage,
+    Unknown,
+}
+
 // What a statement does to the element that it touches.
 pub enum Access {
     Nothing,

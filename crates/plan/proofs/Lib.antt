@@ -1,9 +1,7 @@
-pub mod Verdict
 pub mod Stages
-pub mod Handed
-pub mod Known
-pub mod Bounds
-pub mod Numbering
-pub mod Assigning
+pub mod Symbols
+pub mod AssignedNodes
+pub mod VariableBounds
+pub mod NeedTables
 pub mod Settling
-pub mod Listing
+pub mod Verdict

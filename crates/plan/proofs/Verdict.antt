@@ -1,7 +1,8 @@
 -- The verdict of a plan from its layout and its records. Assumes nothing.
 use Prim.Native.Nat.{ℕ}
-use mathlib.Core.Path.{_≡_, refl, sym, _∙_, ap, subst⁻¹}
-use Rattle.model.specs.Bytes.{Bytes, body}
+use mathlib.Core.Path.{_≡_, refl, sym, _∙_}
+use native.Mathlib.Omega.{arith}
+use Rattle.model.specs.Bytes.{Bytes}
 use Rattle.model.specs.Outcomes.{_then_, conclude}
 use Rattle.model.specs.Layout.{Plan, planOf, layoutCheck, assignmentCount, nodeCount, stepCount}
 use Rattle.model.specs.Needs.{symbolCount, assignmentCountCheck}
@@ -13,20 +14,13 @@ use Rattle.model.specs.declared.Answer.{Answer}
 use Rattle.model.specs.declared.Answer.the-variants.{Accepted, Refused}
 use Rattle.model.proofs.Tests.{same}
 use Rattle.model.proofs.Outcomes.{then-pass, require-pass, conclude-accepted}
-use Rattle.model.proofs.Accepted.{limits, verdict-accepted}
+use Rattle.model.proofs.Accepted.{verdict-accepted}
+use Rattle.layout.specs.Frames.{Laid}
 use Rattle.plan.specs.declared.Reading.{Reading}
-use Rattle.primitives.specs.Parts.{parts}
-use Rattle.layout.specs.declared.frame.Framed.{Framed}
-use Rattle.layout.specs.Frames.{frameIf, framedOf, Laid}
-use Rattle.layout.proofs.Frames.{layout-laid}
-use Rattle.primitives.specs.Sections.{frameOf}
-use Rattle.plan.specs.Reading.{readingOf, AcceptedReading, ReadPromise}
-
--- the sections that a plan's bytes have, handed on one by one
-module _ (p : Bytes) {regions maps supplied statements nodes assignments steps : Bytes} (r : regions ≡ body p 0) (m : maps ≡ body p 1)
-    (s : supplied ≡ body p 2) (t : statements ≡ body p 3) (n : nodes ≡ body p 4) (a : assignments ≡ body p 5) (l : steps ≡ body p 6) where
-  pub handed-plan : parts regions maps supplied statements nodes assignments steps ≡ planOf p
-  handed-plan = rw (r, m, s, t, n, a, l)
+use Rattle.plan.specs.declared.records.CheckedRecords.{CheckedRecords}
+use Rattle.plan.specs.Records.{RecordsChecked}
+use Rattle.plan.specs.Reading.{ReadPromise}
+use Rattle.primitives.specs.declared.sections.Frame.{Frame}
 
 -- "assignments not one per symbol" is refused, so a plan that passes has as many symbols as assignments
 symbols-assigned : (P : Plan) → recordsCheck P ≡ Pass → assignmentCount P ≡ symbolCount P
@@ -36,55 +30,43 @@ symbols-assigned P h =
     same (require-pass _ _ (then-pass _ _ nodes .0))
 
 -- after the layout the records decide
-decided : (p : Bytes) → layoutCheck p ≡ Pass → verdict p ≡ conclude (recordsCheck (planOf p)) (accepted (planOf p))
-unfolding verdict planCheck _then_
-decided p h = rw h
+module _ (p : Bytes) {frame : Frame} (laid : Laid p frame) {checked : CheckedRecords} (read : RecordsChecked (planOf p) checked) where
+  abbrev counted : Answer
+  counted = Accepted (assignmentCount (planOf p)) (nodeCount (planOf p)) (stepCount (planOf p))
 
--- by the outcome of the records of the sections, as their check gave it
-module _ (p : Bytes) (passes : layoutCheck p ≡ Pass) {P : Plan} (same-plan : P ≡ planOf p) {o : Outcome} (checked : o ≡ recordsCheck P) where
-  records : o ≡ recordsCheck (planOf p)
-  records = checked ∙ ap recordsCheck same-plan
-
-  abbrev counted : Plan → Answer
-  counted Q = Accepted (assignmentCount Q) (nodeCount Q) (stepCount Q)
-
-  pub plan-concluded : conclude o (counted P) ≡ verdict p
-  unfolding conclude
-  plan-concluded = by o refl
+  concluded : conclude (checked .outcome) counted ≡ verdict p
+  unfolding verdict planCheck conclude _then_
+  concluded = by (checked .outcome) refl
     where
-      by : (x : Outcome) → o ≡ x → conclude x (counted P) ≡ verdict p
+      by : (o : Outcome) → checked .outcome ≡ o → conclude o counted ≡ verdict p
       by Pass pass =
-          let accepts = sym records ∙ pass in
-          subst⁻¹ (λ Q. counted Q ≡ verdict p) same-plan (rw (decided p passes, accepts, symbols-assigned (planOf p) accepts))
-      by (Refuse r) refused = rw (decided p passes, sym records ∙ refused)
+          let accepts = sym (read .outcome) ∙ pass in
+          rw (laid .passes, accepts, symbols-assigned (planOf p) accepts)
+      by (Refuse r) refused = rw (laid .passes, sym (read .outcome) ∙ refused)
 
-pub layout-refused : (p : Bytes) {r : Refusal} → layoutCheck p ≡ Refuse r → Refused r ≡ verdict p
+  -- the reading of a plan whose layout passes
+  module _ {symbols nodes steps : ℕ} (assigned : symbols ≡ assignmentCount (planOf p)) (listed : nodes ≡ nodeCount (planOf p))
+      (proved : steps ≡ stepCount (planOf p)) {answer : Answer} (told : answer ≡ conclude (checked .outcome) (Accepted symbols nodes steps)) where
+    is-verdict : answer ≡ verdict p
+    is-verdict = told ∙ rw (assigned, listed, proved) concluded
+
+    pub laid-promise : ReadPromise p (record { answer = answer; frame = frame; «node_regions» = checked .«node_regions» })
+    laid-promise =
+        record {
+          answer = is-verdict;
+          accepted = λ a b c h. record {
+            delimited = laid .delimited;
+            facts = verdict-accepted p a b c (sym is-verdict ∙ h) .0 .records;
+            limits = laid .limits;
+            node-regions = read .node-regions (conclude-accepted _ _ _ _ _ (sym told ∙ h) .0);
+          };
+        }
+
+-- the reading of a plan whose layout is refused
+pub refused-promise : (p : Bytes) {refusal : Refusal} (r : Reading) → layoutCheck p ≡ Refuse refusal → r .answer ≡ Refused refusal → ReadPromise p r
 unfolding verdict planCheck _then_ conclude
-layout-refused p h = rw h
-
--- verdict and frame together, by what reading the frame gave
-module _ (p : Bytes) {framed : Framed} (read : framed ≡ framedOf p) where
-  framed-frame : framed .frame ≡ frameIf (layoutCheck p) (frameOf 7 p)
-  framed-frame = ap (λ x. x .frame) read
-
-  pub reading-laid : record { answer = verdict p; frame = framed .frame } ≡ readingOf p
-  reading-laid = rw framed-frame
-
-  pub reading-refused : (r : Refusal) → framed .outcome ≡ Refuse r → record { answer = Refused r; frame = framed .frame } ≡ readingOf p
-  reading-refused r h = rw (framed-frame, layout-refused p (sym (ap (λ x. x .outcome) read) ∙ h))
-
--- the frame of an accepted plan
-pub accepted-laid : (p : Bytes) (symbols nodes steps : ℕ) → verdict p ≡ Accepted symbols nodes steps → Laid p (readingOf p .frame)
-unfolding verdict planCheck frameIf
-accepted-laid p symbols nodes steps h =
-    let passes = then-pass _ _ (conclude-accepted _ _ _ _ _ h .0) .0 in
-    rw passes (layout-laid p passes)
-
--- what reading promises, from what it gives
-pub read-promise : (p : Bytes) (r : Reading) → r ≡ readingOf p → ReadPromise p r
-read-promise p r e = record { reading = e; accepted = λ symbols nodes steps h. rw e (known symbols nodes steps (sym (ap (λ x. x .answer) e) ∙ h)) }
-  where
-    known : (symbols nodes steps : ℕ) → verdict p ≡ Accepted symbols nodes steps → AcceptedReading p (readingOf p)
-    known symbols nodes steps h =
-        let plan = verdict-accepted p symbols nodes steps h .0 in
-        record { delimited = accepted-laid p symbols nodes steps h .delimited; facts = plan .records; limits = limits p (plan .layout) }
+refused-promise p r h e =
+    record {
+      answer = e ∙ rw h;
+      accepted = λ symbols nodes steps a. let z : _≡_ {A = ℕ} 0 1 = cc in absurd (omega arith);
+    }

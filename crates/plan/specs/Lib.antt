@@ -1,4 +1,4 @@
-pub mod Symbols
+pub mod Assignments
 pub mod Needs
-pub mod Sections
+pub mod Records
 pub mod Reading

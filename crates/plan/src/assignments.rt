@@ -1,4 +1,10 @@
 // Symbols, and section 6: a node for each, of its region.
+use crate::sections::ASSIGNMENTS;
+use crate::sections::NODE_BYTES;
+use crate::sections::NODES;
+use crate::sections::STATEMENT_BYTES;
+use crate::sections::STATEMENTS;
+use crate::sections::plan_section;
 use loops::kinds::access_of;
 use loops::kinds::is_access;
 use loops::kinds::opens_loop;
@@ -8,36 +14,36 @@ use model::Refusal;
 use primitives::bytes::byte_at;
 use primitives::outcomes::and_then;
 use primitives::outcomes::require;
+use primitives::sections::Frame;
 ghost use mathlib.Core.Path.{_≡_};
-ghost use Prim.Native.Nat.{suc, _/_, _<_, _≤_};
+ghost use Prim.Native.Nat.{_+_, _/_, _<_, _≤_};
 ghost use lib.ListN.{length};
-ghost use Rattle.model.specs.Tests.{pick};
-ghost use Rattle.model.specs.Outcomes.{_then_, scan};
-ghost use Rattle.model.specs.Layout.{Plan, statementCount};
+ghost use Rattle.model.specs.Outcomes.{scan};
+ghost use Rattle.model.specs.Layout.{Plan, planOf, statementCount};
 ghost use Rattle.model.specs.Needs as Needs;
-ghost use Rattle.model.specs.Needs.{hasSymbol, symbolCount, symbolRegion, assignmentCountCheck, assignmentCheck};
-ghost use Rattle.loops.specs.Tables.{statementParts};
-ghost use Rattle.loops.specs.Loops.{Within};
-ghost use Rattle.plan.specs.Symbols.{Numbered, RegionsKnown, AssignmentsKnown};
+ghost use Rattle.model.specs.Needs.{hasSymbol, symbolCount, symbolRegion, assignmentCheck};
+ghost use Rattle.loops.specs.Parallel.{Within};
+ghost use Rattle.layout.specs.Frames.{Laid};
+ghost use Rattle.plan.specs.Assignments.{SymbolWithin, VariableTables, AssignmentTables, AssignmentSources, assignmentsCheck};
 
 // Whether statement s has a symbol: a FOR, or an access.
-pub fn has_symbol(statements: &[u8], s: usize) -> bool
+fn has_symbol(statements: &[u8], s: usize) -> bool
     requires { ⌜ s < 64 ⌝ }
-    ensures { λ r. ⌜ r ≡ hasSymbol (statementParts (now (statements .entry))) s ⌝ }
+    ensures { λ r. ⌜ ((P : Plan) → P .statements ≡ now (statements .entry) → r ≡ hasSymbol P s) ⌝ }
 {
     let kind = kind_at(statements, s);
     opens_loop(kind) | is_access(access_of(kind))
 }
 
 // The number of the next symbol after statement s, given that of the next before.
-pub fn next_symbol(statements: &[u8], s: usize, before: usize) -> usize
-    requires { ⌜ (s < 64) × (before ≤ s) ⌝ }
-    ensures { λ r. ⌜ r ≡ pick (hasSymbol (statementParts (now (statements .entry))) s) (suc before) before ⌝ }
+pub fn next_symbol(statements: &[u8], s: usize, symbol: usize) -> usize
+    requires { ⌜ (s < 64) × (symbol ≤ s) ⌝ }
+    ensures { λ r. ⌜ (r ≤ s + 1) × ((P : Plan) → P .statements ≡ now (statements .entry) → symbol ≡ Needs.symbol P s → r ≡ Needs.symbol P (s + 1)) ⌝ }
 {
     if has_symbol(statements, s) {
-        before + 1
+        symbol + 1
     } else {
-        before
+        symbol
     }
 }
 
@@ -48,30 +54,20 @@ fn count_symbols(statements: &[u8]) -> usize
 {
     let mut count = 0;
     let mut s = 0;
-    while s < statements.len() / 4 {
+    while s < statements.len() / STATEMENT_BYTES {
         count = next_symbol(statements, s, count);
         s += 1;
     }
     count
 }
 
-// The check before section 6: one assignment for each symbol.
-fn check_assignment_count(assignments: &[u8], symbols: usize) -> Outcome
-    ensures { λ r. ⌜ ((P : Plan) → P .assignments ≡ now (assignments .entry) → symbols ≡ symbolCount P → r ≡ assignmentCountCheck P) ⌝ }
-{
-    require(
-        assignments.len() == symbols,
-        Refusal::AssignmentCount(symbols),
-    )
-}
-
 // The region of the symbol of statement s: the loop's, or that of the access's variable.
 fn symbol_region(statements: &[u8], operands: &[u8], variable_regions: &[u8], s: usize) -> usize
     requires { ⌜ Within (now statements) s ⌝ }
-    ensures { λ r. ⌜ ((P : Plan) → RegionsKnown P (now (statements .entry)) (now (operands .entry)) (now («variable_regions» .entry)) → r ≡ symbolRegion P s) ⌝ }
+    ensures { λ r. ⌜ ((P : Plan) → P .statements ≡ now (statements .entry) → VariableTables P (now (operands .entry)) (now («variable_regions» .entry)) → r ≡ symbolRegion P s) ⌝ }
 {
     if opens_loop(kind_at(statements, s)) {
-        return byte_at(statements, s * 4 + 1);
+        return byte_at(statements, s * STATEMENT_BYTES + 1);
     }
     byte_at(variable_regions, byte_at(operands, s))
 }
@@ -87,8 +83,8 @@ fn check_assignment(
     symbol: usize,
     s: usize,
 ) -> Outcome
-    requires { ⌜ Numbered (now statements) symbol s ⌝ }
-    ensures { λ r. ⌜ ((P : Plan) → AssignmentsKnown P (now (statements .entry)) (now (assignments .entry)) nodes (now («node_regions» .entry)) (now (operands .entry)) (now («variable_regions» .entry)) → symbol ≡ Needs.symbol P s → r ≡ assignmentCheck P s) ⌝ }
+    requires { ⌜ SymbolWithin (now statements) symbol s ⌝ }
+    ensures { λ r. ⌜ ((P : Plan) → AssignmentSources P (now (statements .entry)) (now (assignments .entry)) nodes (now («node_regions» .entry)) (now (operands .entry)) (now («variable_regions» .entry)) → symbol ≡ Needs.symbol P s → r ≡ assignmentCheck P s) ⌝ }
 {
     if !has_symbol(statements, s) {
         return Outcome::Pass;
@@ -115,11 +111,11 @@ fn check_assigned_nodes(
     variable_regions: &[u8],
 ) -> Outcome
     requires { ⌜ length (now statements) / 4 ≤ 64 ⌝ }
-    ensures { λ r. ⌜ ((P : Plan) → AssignmentsKnown P (now (statements .entry)) (now (assignments .entry)) nodes (now («node_regions» .entry)) (now (operands .entry)) (now («variable_regions» .entry)) → r ≡ scan (assignmentCheck P) 0 (statementCount P)) ⌝ }
+    ensures { λ r. ⌜ ((P : Plan) → AssignmentSources P (now (statements .entry)) (now (assignments .entry)) nodes (now («node_regions» .entry)) (now (operands .entry)) (now («variable_regions» .entry)) → r ≡ scan (assignmentCheck P) 0 (statementCount P)) ⌝ }
 {
     let mut symbol = 0;
     let mut s = 0;
-    while s < statements.len() / 4 {
+    while s < statements.len() / STATEMENT_BYTES {
         match check_assignment(
             statements,
             assignments,
@@ -139,24 +135,29 @@ fn check_assigned_nodes(
     Outcome::Pass
 }
 
-// The check of section 6: one assignment for each symbol, then the node of each.
+// Section 6: one assignment for each symbol, then the node of each.
 pub fn check_assignments(
-    statements: &[u8],
-    assignments: &[u8],
-    nodes: usize,
+    plan: &[u8],
+    frame: Frame,
     node_regions: &[u8],
     operands: &[u8],
     variable_regions: &[u8],
 ) -> Outcome
-    requires { ⌜ length (now statements) / 4 ≤ 64 ⌝ }
-    ensures { λ r. ⌜ ((P : Plan) → AssignmentsKnown P (now (statements .entry)) (now (assignments .entry)) nodes (now («node_regions» .entry)) (now (operands .entry)) (now («variable_regions» .entry)) → r ≡ (assignmentCountCheck P then scan (assignmentCheck P) 0 (statementCount P))) ⌝ }
+    requires { ⌜ Laid (now plan) frame ⌝ }
+    ensures { λ r. ⌜ (AssignmentTables (planOf (now (plan .entry))) (now («node_regions» .entry)) (now (operands .entry)) (now («variable_regions» .entry)) → r ≡ assignmentsCheck (planOf (now (plan .entry)))) ⌝ }
 {
+    let statements = plan_section(plan, frame, STATEMENTS);
+    let nodes = plan_section(plan, frame, NODES);
+    let assignments = plan_section(plan, frame, ASSIGNMENTS);
     let symbols = count_symbols(statements);
-    let counted = check_assignment_count(assignments, symbols);
+    let counted = require(
+        assignments.len() == symbols,
+        Refusal::AssignmentCount(symbols),
+    );
     let assigned = check_assigned_nodes(
         statements,
         assignments,
-        nodes,
+        nodes.len() / NODE_BYTES,
         node_regions,
         operands,
         variable_regions,

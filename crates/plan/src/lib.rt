@@ -1,13 +1,16 @@
 // Reads and checks partition plans.
 use crate::records::check_records;
+use crate::sections::ASSIGNMENTS;
+use crate::sections::NODE_BYTES;
+use crate::sections::NODES;
+use crate::sections::STEP_BYTES;
+use crate::sections::STEPS;
+use crate::sections::plan_section;
 use layout::frame::read_frame;
 use model::Answer;
 use model::Outcome;
 use primitives::outcomes::conclude;
 use primitives::sections::Frame;
-use primitives::sections::section_body;
-ghost use mathlib.Core.Path.{_≡_};
-ghost use Rattle.model.specs.Verdict.{verdict};
 ghost use Rattle.layout.specs.Frames.{Laid};
 ghost use Rattle.model.specs.Promises.{CheckPromise};
 ghost use Rattle.plan.specs.Reading.{ReadPromise};
@@ -15,45 +18,42 @@ ghost use Rattle.plan.specs.Reading.{ReadPromise};
 mod assignments;
 mod needs;
 mod records;
+mod sections;
 
-// What reading a plan gives: the answer, and where its sections end if the layout passes, all 0 if it does not.
+// What reading a plan gives: the answer and, after acceptance, where its sections end and the region of each node.
 pub struct Reading {
     pub answer: Answer,
     pub frame: Frame,
+    pub node_regions: [u8; 48],
 }
 
-// The answer to a plan whose frame is known: each section's body is handed on to its readers.
-fn check_sections(plan: &[u8], frame: Frame) -> Answer
+// Reads the records of a plan whose layout passes.
+fn read_records(plan: &[u8], frame: Frame) -> Reading
     requires { ⌜ Laid (now plan) frame ⌝ }
-    ensures { λ r. ⌜ r ≡ verdict (now (plan .entry)) ⌝ }
+    ensures { λ r. ⌜ ReadPromise (now (plan .entry)) r ⌝ }
 {
-    let regions = section_body(plan, frame, 0);
-    let maps = section_body(plan, frame, 1);
-    let supplied = section_body(plan, frame, 2);
-    let statements = section_body(plan, frame, 3);
-    let nodes = section_body(plan, frame, 4);
-    let assignments = section_body(plan, frame, 5);
-    let steps = section_body(plan, frame, 6);
-    let outcome = check_records(
-        regions,
-        maps,
-        supplied,
-        statements,
-        nodes,
-        assignments,
-        steps,
-    );
-    conclude(
+    let checked = check_records(plan, frame);
+    let outcome = checked.outcome;
+    let node_regions = checked.node_regions;
+    let nodes = plan_section(plan, frame, NODES);
+    let assignments = plan_section(plan, frame, ASSIGNMENTS);
+    let steps = plan_section(plan, frame, STEPS);
+    let answer = conclude(
         outcome,
         Answer::Accepted {
             symbols: assignments.len(),
-            nodes: nodes.len() / 4,
-            steps: steps.len() / 5,
+            nodes: nodes.len() / NODE_BYTES,
+            steps: steps.len() / STEP_BYTES,
         },
-    )
+    );
+    Reading {
+        answer,
+        frame,
+        node_regions,
+    }
 }
 
-// Reads a plan: verdict and frame together.
+// Reads a plan: its layout, then its records.
 pub fn read(plan: &[u8]) -> Reading
     ensures { λ r. ⌜ ReadPromise (now (plan .entry)) r ⌝ }
 {
@@ -61,13 +61,11 @@ pub fn read(plan: &[u8]) -> Reading
     let frame = framed.frame;
     let outcome = framed.outcome;
     match outcome {
-        Outcome::Pass => {
-            let answer = check_sections(plan, frame);
-            Reading { answer, frame }
-        }
+        Outcome::Pass => read_records(plan, frame),
         Outcome::Refuse(refusal) => Reading {
             answer: Answer::Refused(refusal),
             frame,
+            node_regions: [0u8; 48],
         },
     }
 }

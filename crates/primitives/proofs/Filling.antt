@@ -1,18 +1,15 @@
--- A table filled in order: below j its entries are a function's values, from j on 0. Assumes nothing.
+-- Tables filled from the front, an entry a turn, and what is read past a bound. Assumes nothing.
 use Prim.Native.Nat.{ℕ, zero, suc, _+_, _≤_, _<_}
-use mathlib.Core.Path.{_≡_, refl, sym, _∙_}
-use mathlib.Core.Bool.{Bool, true, false}
+use mathlib.Core.Path.{_≡_, refl}
 use mathlib.Core.List.{List}
-use mathlib.Core.Logic.{inl, inr}
+use native.Mathlib.Decide.{ℕ-discrete}
 use native.Mathlib.Omega.{arith}
-use lib.Dec.{eqb}
-use lib.ListN.{getD, length, replicate, set}
+use lib.ListN.{length, getD, replicate, set}
 use lib.Seq.{getD-set-same, getD-set-other}
-use borrow.Author.Tests.{le-ltb, eqb-true, eqb-false}
+use borrow.Author.Tests.{le-ltb}
 use Rattle.model.specs.Tests.{_<?_}
 use Rattle.model.specs.Recursion.{below}
-use Rattle.model.proofs.Tests.{less, less!, lacks, split, pick-false}
-use Rattle.model.proofs.Recursion.{below-at}
+use Rattle.model.proofs.Tests.{pick-false}
 
 -- before the first store every entry is 0
 pub zeros : (n k : ℕ) → _≡_ {A = ℕ} (getD (replicate n 0) k 0) 0
@@ -25,24 +22,21 @@ pub below-past : {A : Type 0} (default : A) (j : ℕ) (values : ℕ → A) (k : 
 unfolding below _<?_
 below-past default j values k h = pick-false _ _ _ (le-ltb k j h)
 
-module _ (f : ℕ → ℕ) where
-  pub none-filled : (n k : ℕ) → getD (replicate n 0) k 0 ≡ below 0 0 f k
-  none-filled n k = zeros n k ∙ sym (below-past 0 0 f k (omega arith))
-
-  below-more : (j k : ℕ) → (k ≡ j → ⊥) → below 0 j f k ≡ below 0 (j + 1) f k
-  below-more j k ne =
-      elim (split (k <? j)) [
-        | inl y ↦ let l = less y in below-at 0 j f k l ∙ sym (below-at 0 (j + 1) f k (omega arith))
-        | inr n ↦ let past : j + 1 ≤ k = after (lacks n) in below-past 0 j f k (omega arith) ∙ sym (below-past 0 (j + 1) f k past)
-      ]
+module _ {A : Type 0} (default : A) where
+  -- what holds of the entries before n, and of a new one at n, holds of those before n + 1
+  pub entry-next : (Q : ℕ → A → Type 0) (table : List A) (n : ℕ) (v : A) → n < length table → ((k : ℕ) → k < n → Q k (getD table k default)) → Q n v
+      → (k : ℕ) → k < n + 1 → Q k (getD (set table n v) k default)
+  entry-next Q table n v inside before here k h = go (ℕ-discrete k n)
     where
-      after : ((k <? j) ≡ true → ⊥) → j + 1 ≤ k
-      after n = let m : ¬ (k < j) = λ l. n (less! l) in omega arith
+      go : Dec (k ≡ n) → Q k (getD (set table n v) k default)
+      go (yes e) = rw (e, getD-set-same table n v default inside) here
+      go (no d) = rw (getD-set-other table n k v default d) (before k (omega arith))
 
-  pub next-filled : (table : List ℕ) (j v : ℕ) → j < length table → ((k : ℕ) → getD table k 0 ≡ below 0 j f k) → v ≡ f j → (k : ℕ)
-      → getD (set table j v) k 0 ≡ below 0 (j + 1) f k
-  next-filled table j v inside filled e k = go (eqb k j) refl
+  -- what holds of all entries, and of a new one, holds of all of them then
+  pub entry-changed : (Q : A → Type 0) (table : List A) (n : ℕ) (v : A) (m : ℕ) → n < length table → ((k : ℕ) → k < m → Q (getD table k default)) → Q v
+      → (k : ℕ) → k < m → Q (getD (set table n v) k default)
+  entry-changed Q table n v m inside others here k h = go (ℕ-discrete k n)
     where
-      go : (b : Bool) → eqb k j ≡ b → getD (set table j v) k 0 ≡ below 0 (j + 1) f k
-      go true q = rw (eqb-true k j q) (getD-set-same table j v 0 inside ∙ e ∙ sym (below-at 0 (j + 1) f j (omega arith)))
-      go false q = getD-set-other table j k v 0 (eqb-false k j q) ∙ filled k ∙ below-more j k (eqb-false k j q)
+      go : Dec (k ≡ n) → Q (getD (set table n v) k default)
+      go (yes e) = rw (e, getD-set-same table n v default inside) here
+      go (no d) = rw (getD-set-other table n k v default d) (others k h)

@@ -3,3 +3,5 @@ pub mod Scanning
 pub mod Searches
 pub mod Filling
 pub mod Shifts
+pub mod Searching
+pub mod Stages

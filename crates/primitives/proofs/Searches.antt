@@ -1,10 +1,10 @@
--- A search over the numbers from 0 on: what holds while nothing is found. Assumes nothing.
+-- Loops over the numbers from 0 on: a search, while nothing is found, and a test of all. Assumes nothing.
 use Prim.Native.Nat.{ℕ, zero, suc, _+_, _≤_, _<_}
 use mathlib.Core.Path.{_≡_, refl}
 use mathlib.Core.Bool.{Bool, false}
 use native.Mathlib.Numerals.{add-one}
 use native.Mathlib.Omega.{arith}
-use Rattle.model.specs.Tests.{any, _or_}
+use Rattle.model.specs.Tests.{any, every, _and_, _or_}
 
 module _ (test : ℕ → Bool) where
   pub none-before : any 0 test ≡ false
@@ -17,6 +17,15 @@ module _ (test : ℕ → Bool) where
 
   pub none-at-end : (k n : ℕ) → k ≤ n → n ≤ k → any k test ≡ false → any n test ≡ false
   none-at-end k n a b h = let e : k ≡ n = omega arith in rw e at h
+
+-- a loop that tests one number after the other
+module _ (test : ℕ → Bool) where
+  pub every-next : (n : ℕ) → every n test and test n ≡ every (n + 1) test
+  unfolding every
+  every-next n = rw (add-one n)
+
+  pub every-end : (n m : ℕ) → n ≤ m → m ≤ n → every n test ≡ every m test
+  every-end n m a b = let e : n ≡ m = omega arith in rw e
 
 -- a search by tests that agree
 pub any-same : (n : ℕ) (f g : ℕ → Bool) → ((k : ℕ) → k < n → f k ≡ g k) → any n f ≡ any n g

@@ -1,8 +1,10 @@
-// Cells of the records that several readers share: of a map and of a supplied partition.
+// Cells of the records that several readers share: of a map, of a supplied partition and of a node.
 use crate::bytes::byte_at;
+use model::NodeKind;
 ghost use mathlib.Core.Path.{_≡_};
 ghost use Prim.Native.Nat.{_+_, _*_, _^_, _<_};
 ghost use Rattle.model.specs.Layout.{Plan, source, target, totality, suppliedRegion, suppliedFlags};
+ghost use Rattle.model.specs.Nodes.{nodeKindOf, nodeKindAt};
 
 // The region that a map leads from.
 pub fn map_source(maps: &[u8], map: usize) -> usize
@@ -42,4 +44,28 @@ pub fn supplied_flags(supplied: &[u8], partition: usize) -> usize
     ensures { λ r. ⌜ ((P : Plan) → P .supplied ≡ now (supplied .entry) → r ≡ suppliedFlags P partition) × (r < 256) ⌝ }
 {
     byte_at(supplied, partition * 2 + 1)
+}
+
+// The kind that a node's first byte stands for.
+pub fn node_kind_of(byte: usize) -> NodeKind
+    ensures { λ r. ⌜ r ≡ nodeKindOf byte ⌝ }
+{
+    match byte {
+        0 => NodeKind::Supplied,
+        1 => NodeKind::Equal,
+        2 => NodeKind::Union,
+        3 => NodeKind::Intersection,
+        4 => NodeKind::Difference,
+        5 => NodeKind::Image,
+        6 => NodeKind::Preimage,
+        _ => NodeKind::Unknown,
+    }
+}
+
+// The kind of node j.
+pub fn node_kind(nodes: &[u8], j: usize) -> NodeKind
+    requires { ⌜ j * 4 + 3 < 2 ^ 64 ⌝ }
+    ensures { λ r. ⌜ ((P : Plan) → P .nodes ≡ now (nodes .entry) → r ≡ nodeKindAt P j) ⌝ }
+{
+    node_kind_of(byte_at(nodes, j * 4))
 }

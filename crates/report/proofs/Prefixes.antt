@@ -4,7 +4,6 @@
 use Prim.Native.Nat.{ℕ, zero, suc, _+_, _*_, _≤_, _<_}
 use mathlib.Core.Path.{_≡_, refl, sym, ap, _∙_}
 use mathlib.Core.Bool.{Bool}
-use native.Mathlib.Nat.{le-refl, mul-le-mul}
 use native.Mathlib.Decide.{decLe}
 use native.Mathlib.Omega.{arith}
 use lib.Dec.{lit<}
@@ -15,8 +14,8 @@ use Rattle.model.specs.Tests.{Is, _and_, non, _≤?_}
 use Rattle.model.specs.Outcomes.{require, _then_, scan, conclude}
 use Rattle.model.specs.Layout.{Plan, planOf, sectionCheck, layoutCheck}
 use Rattle.model.specs.Verdict.{planCheck, accepted}
-use Rattle.model.specs.DataSets.{dataOf, dataCheck, wellFramed}
-use Rattle.model.specs.Evaluation.{wordsNeeded, evaluationCheck, evaluation}
+use Rattle.model.specs.DataSets.{dataCheck, wellFramed}
+use Rattle.model.specs.Evaluation.{evaluationCheck, evaluation}
 use Rattle.model.specs.declared.Answer.{Answer}
 use Rattle.model.specs.declared.Answer.the-variants.{Accepted}
 use Rattle.model.specs.declared.Refusal.{Refusal}
@@ -25,10 +24,10 @@ use Rattle.model.specs.declared.Outcome.{Outcome}
 use Rattle.model.specs.declared.Outcome.the-variants.{Pass, Refuse}
 use Rattle.model.proofs.Tests.{both, pair, refuted, same, fails, most, most! }
 use Rattle.model.proofs.Outcomes.{then-pass, required, conclude-accepted}
-use Rattle.model.proofs.Accepted.{laid-out, plan-accepted, limits}
-use Rattle.model.proofs.Fitting.{data-laid-out, fit}
+use Rattle.model.proofs.Accepted.{laid-out, plan-accepted}
+use Rattle.model.proofs.Fitting.{data-laid-out}
 use Rattle.primitives.proofs.Bodies.{boundary-most}
-use Rattle.report.specs.Buffers.{planBytes, dataBytes, outputWords}
+use Rattle.report.specs.Buffers.{planBytes, dataBytes}
 
 -- the sections of a prefix that is long enough end where those of the whole do
 module _ (s : Bytes) (bytes : (i : ℕ) → byte s i < 256) where
@@ -176,11 +175,3 @@ module _ (p d : Bytes) (plan-bytes : (i : ℕ) → byte p i < 256) (data-bytes :
         take-all dataBytes d
             (omega (arith, data-room, data-laid-out (planOf p) d (then-pass _ _ rest .0) .nothing-after, boundary-most d data-bytes 4)),
       )
-
--- no plan that is accepted needs more words
-pub words-enough : (p d : Bytes) → planCheck p ≡ Pass → dataCheck (planOf p) d ≡ Pass → wordsNeeded (planOf p) (dataOf d) ≤ outputWords
-unfolding outputWords
-words-enough p d h h' =
-    let nodes = limits p (plan-accepted p h .layout) .few-nodes in
-    let pieces = fit (planOf p) d h' .few-pieces in
-    mul-le-mul (mul-le-mul nodes pieces) (le-refl 8)

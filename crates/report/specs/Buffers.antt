@@ -8,7 +8,3 @@ planBytes = 1 + 7 * 65537 + 1
 -- the edition, four sections, and one byte more
 unfoldable pub dataBytes : ℕ
 dataBytes = 1 + 4 * 65537 + 1
-
--- 48 nodes of 16 pieces of 8 words
-unfoldable pub outputWords : ℕ
-outputWords = 48 * 16 * 8

@@ -6,7 +6,8 @@ use files::read_file;
 use layout::cells::assigned_node;
 ghost use mathlib.Core.Path.{_≡_};
 ghost use lib.ListN.{length};
-ghost use Rattle.report.specs.Buffers.{planBytes, dataBytes, outputWords};
+ghost use Rattle.model.specs.Evaluation.{MOST_WORDS};
+ghost use Rattle.report.specs.Buffers.{planBytes, dataBytes};
 
 // Prints the members of each symbol's pieces.
 fn print_symbols(plan: &[u8], data: &[u8], words: &[u64], symbols: usize) -> bool {
@@ -37,7 +38,7 @@ fn data_buffer() -> [u8; 262150]
 
 // As many words as any plan needs.
 fn output_words() -> [u64; 6144]
-    ensures { λ r. ⌜ (6144 ≡ length r) × (6144 ≡ outputWords) ⌝ }
+    ensures { λ r. ⌜ length r ≡ MOST_WORDS ⌝ }
 {
     [0; 6144]
 }

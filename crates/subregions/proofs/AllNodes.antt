@@ -6,13 +6,14 @@ use mathlib.Core.Bool.{Bool}
 use mathlib.Core.List.{List}
 use native.Mathlib.Nat.{mul-le-mul-right, suc-mul}
 use native.Mathlib.Omega.{arith}
-use lib.ListN.{length}
+use lib.ListN.{length, getD}
 use Rattle.model.specs.Tests.{_and_, _or_, non, any}
+use Rattle.model.specs.Bytes.{Bytes, u16}
 use Rattle.model.specs.Partitions.{Partition, union, intersection, difference, image, preimage}
 use Rattle.model.specs.Layout.{Plan, nodeCount, source, target, nodeKind, nodeB}
-use Rattle.model.specs.Nodes.{nodeRegion}
-use Rattle.model.specs.DataSets.{DataSet, pieces, size, mapsTo}
-use Rattle.model.specs.Membership.{nodeSets, member}
+use Rattle.model.specs.Nodes.{nodeKindOf, nodeKindAt, nodeRegion}
+use Rattle.model.specs.DataSets.{DataSet, dataOf, pieces, size, mapsTo}
+use Rattle.model.specs.Membership.{nodeSetsBy, nodeSets, member}
 use Rattle.model.specs.Words.{holds, word, store}
 use Rattle.model.specs.Evaluation.{wordsNeeded, nodeWord, filledWords}
 use Rattle.model.proofs.Tests.{both, pair, less, less!, at-each, _also_}
@@ -22,9 +23,9 @@ use Rattle.model.specs.AcceptedPlans.{Facts}
 use Rattle.model.proofs.Fitting.{Fit}
 use Rattle.model.proofs.NodeSets.{supplied-node, equal-node, union-node, intersection-node, difference-node, image-node, preimage-node, kind-known, region-small, node-within}
 use Rattle.subregions.specs.Pieces.{pieceWords}
-use Rattle.subregions.specs.Fill.{held, nodeFilled, NodeSizes, NodeHanded, AllHanded}
+use Rattle.subregions.specs.Fill.{setsOfWords, nodeFilled, NodeSizes, SizeSources, FillSources, NodeSources}
 use Rattle.bitsets.proofs.Bits.{agree}
-use Rattle.subregions.proofs.NodeFill.{sets-supplied, sets-equal, sets-union, sets-intersection, sets-difference, sets-image, sets-preimage}
+use Rattle.subregions.proofs.NodeOperators.{sets-are}
 
 module _ (P : Plan) (D : DataSet) (F : Facts P) where
   -- a node made of earlier nodes' members has its own
@@ -36,22 +37,22 @@ module _ (P : Plan) (D : DataSet) (F : Facts P) where
     at q = ap (λ (partition : Partition). partition i e) q
 
     pub members-are : nodeSets P D j H i e ≡ member P D j i e
-    unfolding union intersection difference image preimage
+    unfolding nodeKindAt nodeKindOf nodeSetsBy union intersection difference image preimage
     members-are =
         at-each (λ kind. nodeKind P j ≡ kind → nodeSets P D j H i e ≡ member P D j i e) 0 7
-        ((λ k. at (sets-supplied P D j H k ∙ sym (supplied-node P D F j lt k .holds)))
-        also (λ k. at (sets-equal P D j H k ∙ sym (equal-node P D F j lt k .holds)))
+        ((λ k. at (sets-are P D j H (ap nodeKindOf k) ∙ sym (supplied-node P D F j lt k .holds)))
+        also (λ k. at (sets-are P D j H (ap nodeKindOf k) ∙ sym (equal-node P D F j lt k .holds)))
         also (λ k. let n = union-node P D F j lt k in
-        at (sets-union P D j H k) ∙ ap₂ _or_ (operand _ (n .left-earlier)) (operand _ (n .right-earlier)) ∙ sym (at (n .holds)))
+        at (sets-are P D j H (ap nodeKindOf k)) ∙ ap₂ _or_ (operand _ (n .left-earlier)) (operand _ (n .right-earlier)) ∙ sym (at (n .holds)))
         also (λ k. let n = intersection-node P D F j lt k in
-        at (sets-intersection P D j H k) ∙ ap₂ _and_ (operand _ (n .left-earlier)) (operand _ (n .right-earlier)) ∙ sym (at (n .holds)))
+        at (sets-are P D j H (ap nodeKindOf k)) ∙ ap₂ _and_ (operand _ (n .left-earlier)) (operand _ (n .right-earlier)) ∙ sym (at (n .holds)))
         also (λ k. let n = difference-node P D F j lt k in
-        at (sets-difference P D j H k) ∙ ap₂ (λ (s t : Bool). s and non t) (operand _ (n .left-earlier)) (operand _ (n .right-earlier)) ∙ sym (at (n .holds)))
+        at (sets-are P D j H (ap nodeKindOf k)) ∙ ap₂ (λ (s t : Bool). s and non t) (operand _ (n .left-earlier)) (operand _ (n .right-earlier)) ∙ sym (at (n .holds)))
         also (λ k. let n = image-node P D F j lt k in
-        at (sets-image P D j H k)
+        at (sets-are P D j H (ap nodeKindOf k))
         ∙ ap (λ (set : ℕ → Bool). any (size D (source P (nodeB P j))) (λ x. set x and mapsTo P D (nodeB P j) x e)) (earlier _ (n .earlier)) ∙ sym (at (n .holds)))
         also (λ k. let n = preimage-node P D F j lt k in
-        at (sets-preimage P D j H k)
+        at (sets-are P D j H (ap nodeKindOf k))
         ∙ ap (λ (set : ℕ → Bool). any (size D (target P (nodeB P j))) (λ x. mapsTo P D (nodeB P j) e x and set x)) (earlier _ (n .earlier)) ∙ sym (at (n .holds)))
         also tt)
         (nodeKind P j) (omega arith) (kind-known P D F j lt) refl
@@ -62,9 +63,9 @@ module _ (P : Plan) (D : DataSet) (F : Facts P) where
     room = omega (arith, mul-le-mul-right (pieces D) lt, suc-mul j (pieces D))
 
     -- the words hold the members of an earlier node: none is at or above the size of its region
-    held-members : (k : ℕ) → k < j → (i : ℕ) → i < pieces D → held P D now k i ≡ member P D k i
-    unfolding held
-    held-members k h i l = fun-ext (λ e.
+    words-members : (k : ℕ) → k < j → (i : ℕ) → i < pieces D → setsOfWords P D now k i ≡ member P D k i
+    unfolding setsOfWords
+    words-members k h i l = fun-ext (λ e.
         agree
         (λ t. sym (here e (less (both t .0))) ∙ both t .1)
         (λ t. let w = node-within P D F fit k (omega arith) i e t in pair (less! (w .1)) (here e (w .1) ∙ t)))
@@ -80,17 +81,17 @@ module _ (P : Plan) (D : DataSet) (F : Facts P) where
     node-next =
         let begin : 0 + j * pieces D * 8 ≡ j * pieces D * 8 = omega arith in
         let more : j * pieces D * 8 + pieces D * 8 ≡ (j + 1) * pieces D * 8 = omega (arith, suc-mul j (pieces D)) in
-        ap (λ (list : List ℕ). store list (j * pieces D * 8) (pieces D * 8) (pieceWords (nodeSets P D j (held P D now)))) written
-        ∙ store-same _ (j * pieces D * 8) (pieces D * 8) (pieceWords (nodeSets P D j (held P D now))) (λ w. nodeWord P D (j * pieces D * 8 + w)) (λ w h. own w h)
+        ap (λ (list : List ℕ). store list (j * pieces D * 8) (pieces D * 8) (pieceWords (nodeSets P D j (setsOfWords P D now)))) written
+        ∙ store-same _ (j * pieces D * 8) (pieces D * 8) (pieceWords (nodeSets P D j (setsOfWords P D now))) (λ w. nodeWord P D (j * pieces D * 8 + w)) (λ w h. own w h)
         ∙ ap (λ (x : ℕ). store (store old 0 (j * pieces D * 8) (nodeWord P D)) x (pieces D * 8) (λ w. nodeWord P D (j * pieces D * 8 + w))) (sym begin)
         ∙ store-pieces old 0 (j * pieces D * 8) (pieces D * 8) (nodeWord P D)
         ∙ ap (λ (n : ℕ). store old 0 n (nodeWord P D)) more
       where
-        own : (w : ℕ) → w < pieces D * 8 → word (nodeSets P D j (held P D now) (w / 8)) (w % 8) ≡ nodeWord P D (j * pieces D * 8 + w)
+        own : (w : ℕ) → w < pieces D * 8 → word (nodeSets P D j (setsOfWords P D now) (w / 8)) (w % 8) ≡ nodeWord P D (j * pieces D * 8 + w)
         own w h =
             let i : w / 8 < pieces D = omega arith in
             let place : (j * pieces D + w / 8) * 8 + w % 8 ≡ j * pieces D * 8 + w = omega arith in
-            word-same _ (member P D j (w / 8)) (w % 8) (λ b l. members-are j lt (held P D now) (w / 8) (λ k m. held-members k m (w / 8) i) (w % 8 * 64 + b))
+            word-same _ (member P D j (w / 8)) (w % 8) (λ b l. members-are j lt (setsOfWords P D now) (w / 8) (λ k m. words-members k m (w / 8) i) (w % 8 * 64 + b))
             ∙ sym (node-word P D j (w / 8) (w % 8) i (omega arith)) ∙ ap (nodeWord P D) place
 
 -- nothing is written before the first node, and all is after the last
@@ -102,13 +103,23 @@ pub all-written : (P : Plan) (D : DataSet) (old now : List ℕ) (j : ℕ) → j 
 unfolding filledWords
 all-written P D old now j e q = q ∙ ap (λ (n : ℕ). store old 0 (n * pieces D * 8) (nodeWord P D)) e
 
--- what a node is handed of what all are
-pub few-listed : {P : Plan} {D : DataSet} {maps supplied nodes sizes entries members entryStarts memberStarts : List ℕ} {N lent : ℕ}
-    → AllHanded P D maps supplied nodes sizes entries members entryStarts memberStarts N lent → length nodes / 4 ≤ 48
-few-listed A = rw (A .handed .nodes-are) (A .sizes-handed .few)
+-- the size of a node's region, from the table of the nodes' regions
+pub size-read : {P : Plan} {d : Bytes} {sizes nodeRegions : List ℕ} {count j region n : ℕ} → SizeSources P d sizes nodeRegions count → j < count
+    → region ≡ getD nodeRegions j 0 → n ≡ u16 sizes (2 * region) → n ≡ size (dataOf d) (nodeRegion P j)
+unfolding size
+size-read S lt r q = q ∙ rw (r, S .node-regions-are _ lt, S .sizes-are)
 
-pub node-handed : {P : Plan} {D : DataSet} {maps supplied nodes sizes entries members entryStarts memberStarts table : List ℕ} {N lent before j : ℕ}
-    → AllHanded P D maps supplied nodes sizes entries members entryStarts memberStarts N before → lent ≡ before → j < length nodes / 4
-    → NodeSizes P D table (nodeCount P) → NodeHanded P D nodes entries members entryStarts memberStarts table N lent j
-node-handed A same lt sizes-are =
-    record { handed = rw same (A .handed); sizes-are = sizes-are; listed = rw (← A .handed .nodes-are) lt }
+-- what the sizes and a node are read from, of what all nodes are
+module _ {P : Plan} {d : Bytes} {nodes nodeRegions sizes entries members entryStarts memberStarts : List ℕ} {N lent : ℕ}
+    (S : FillSources P d nodes nodeRegions sizes entries members entryStarts memberStarts N lent) where
+  pub few-nodes-listed : length nodes / 4 ≤ 48
+  few-nodes-listed = rw (S .nodes-are) (S .limits .few-nodes)
+
+  size-sources : SizeSources P d sizes nodeRegions (length nodes / 4)
+  size-sources = record { sizes-are = S .sizes-are; node-regions-are = λ j lt. S .node-regions-are j (rw (← S .nodes-are) lt) }
+
+  pub node-sources : {table : List ℕ} {now j : ℕ} → now ≡ lent → j < length nodes / 4
+      → (SizeSources P d sizes nodeRegions (length nodes / 4) → NodeSizes P (dataOf d) table (length nodes / 4))
+      → NodeSources P d nodes entries members entryStarts memberStarts table N now j
+  node-sources same lt sizes-are =
+      record { nodeRegions = nodeRegions; sizes = sizes; sources = rw same S; node-sizes-are = λ j l. sizes-are size-sources j (rw (S .nodes-are) l); node-listed = rw (← S .nodes-are) lt }

@@ -1,6 +1,7 @@
 pub mod Zeros
 pub mod Piece
 pub mod Maps
+pub mod NodePieces
+pub mod NodeOperators
 pub mod NodeFill
-pub mod NodeSizes
 pub mod AllNodes

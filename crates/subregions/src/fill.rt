@@ -1,15 +1,24 @@
 // Fills the lent words, node by node.
-use crate::pieces::fill_combined;
+use crate::pieces::fill_difference;
 use crate::pieces::fill_equal;
 use crate::pieces::fill_image;
+use crate::pieces::fill_intersection;
 use crate::pieces::fill_preimage;
 use crate::pieces::fill_supplied;
+use crate::pieces::fill_union;
+use model::NodeKind;
 use primitives::bytes::byte_at;
 use primitives::bytes::u16_at;
 use primitives::lookup::usize_at;
-ghost use Prim.Native.Nat.{_/_, _<_, _≤_};
+use primitives::records::node_kind;
+ghost use mathlib.Core.Path.{_≡_};
+ghost use Prim.Native.Nat.{_≤_};
 ghost use lib.ListN.{length};
-ghost use Rattle.subregions.specs.Fill.{NodeReady, NodeDone, SizeOfNode, SizesOfNodes, AllReady, AllDone};
+ghost use Rattle.model.specs.Bytes.{Bytes};
+ghost use Rattle.model.specs.Layout.{Plan};
+ghost use Rattle.model.specs.DataSets.{dataOf};
+ghost use Rattle.model.specs.Evaluation.{filledWords};
+ghost use Rattle.subregions.specs.Fill.{nodeFilled, SizeSources, NodeSizes, FillSources, FillReady, NodeSources, NodeReady};
 
 // Fills node j from its operands' words.
 pub fn fill_node(
@@ -24,60 +33,39 @@ pub fn fill_node(
     j: usize,
 )
     requires { ⌜ NodeReady (now nodes) (now entries) (now members) (now «entry_starts») (now «member_starts») (now «node_sizes») pieces (length (now words)) j ⌝ }
-    ensures { λ _. ⌜ NodeDone (now (nodes .entry)) (now (entries .entry)) (now (members .entry)) (now («entry_starts» .entry)) (now («member_starts» .entry)) (now («node_sizes» .entry)) pieces j (now (words .entry)) (now (words .exit)) ⌝ }
+    ensures { λ _. ⌜ ((P : Plan) (d : Bytes) → NodeSources P d (now (nodes .entry)) (now (entries .entry)) (now (members .entry)) (now («entry_starts» .entry)) (now («member_starts» .entry)) (now («node_sizes» .entry)) pieces (length (now (words .entry))) j → now (words .exit) ≡ nodeFilled P (dataOf d) (now (words .entry)) j) ⌝ }
 {
-    let kind = byte_at(nodes, j * 4);
+    let kind = node_kind(nodes, j);
     let a = byte_at(nodes, j * 4 + 1);
     let b = byte_at(nodes, j * 4 + 2);
     let size = usize_at(node_sizes, j);
     let from = usize_at(member_starts, a);
     let start = usize_at(entry_starts, b);
-    let operand_size = usize_at(node_sizes, a);
+    let a_size = usize_at(node_sizes, a);
     let at = j * pieces * 8;
     let left = a * pieces * 8;
+    let right = b * pieces * 8;
     match kind {
-        0 => fill_supplied(words, members, from, size, pieces, at),
-        1 => fill_equal(words, size, pieces, at),
-        5 => fill_image(words, entries, start, operand_size, left, pieces, at),
-        6 => fill_preimage(words, entries, start, size, operand_size, left, pieces, at),
-        _ => fill_combined(words, kind, left, b * pieces * 8, size, pieces, at),
+        NodeKind::Supplied => fill_supplied(words, members, from, size, pieces, at),
+        NodeKind::Equal => fill_equal(words, size, pieces, at),
+        NodeKind::Union => fill_union(words, left, right, size, pieces, at),
+        NodeKind::Intersection => fill_intersection(words, left, right, size, pieces, at),
+        NodeKind::Difference => fill_difference(words, left, right, size, pieces, at),
+        NodeKind::Image => fill_image(words, entries, start, a_size, left, pieces, at),
+        NodeKind::Preimage => fill_preimage(words, entries, start, size, a_size, left, pieces, at),
+        NodeKind::Unknown => {}
     }
 }
 
-// The size of node j's region, from the sizes of the nodes before it.
-fn node_size(
-    maps: &[u8],
-    supplied: &[u8],
-    nodes: &[u8],
-    sizes: &[u8],
-    earlier: &[usize],
-    j: usize,
-) -> usize
-    requires { ⌜ j < 48 ⌝ }
-    ensures { λ r. ⌜ SizeOfNode (now (maps .entry)) (now (supplied .entry)) (now (nodes .entry)) (now (sizes .entry)) (now (earlier .entry)) j r ⌝ }
+// The sizes of the first `count` nodes' regions.
+pub fn node_sizes(sizes: &[u8], node_regions: &[u8], count: usize) -> [usize; 48]
+    requires { ⌜ count ≤ 48 ⌝ }
+    ensures { λ r. ⌜ ((P : Plan) (d : Bytes) → SizeSources P d (now (sizes .entry)) (now («node_regions» .entry)) count → NodeSizes P (dataOf d) r count) ⌝ }
 {
-    let kind = byte_at(nodes, j * 4);
-    let a = byte_at(nodes, j * 4 + 1);
-    let b = byte_at(nodes, j * 4 + 2);
-    match kind {
-        0 => u16_at(sizes, 2 * byte_at(supplied, a * 2)),
-        1 => u16_at(sizes, 2 * a),
-        5 => u16_at(sizes, 2 * byte_at(maps, b * 3 + 1)),
-        6 => u16_at(sizes, 2 * byte_at(maps, b * 3)),
-        _ => usize_at(earlier, a),
-    }
-}
-
-// The sizes of the nodes' regions.
-fn node_sizes(maps: &[u8], supplied: &[u8], nodes: &[u8], sizes: &[u8]) -> [usize; 48]
-    requires { ⌜ length (now nodes) / 4 ≤ 48 ⌝ }
-    ensures { λ r. ⌜ SizesOfNodes (now (maps .entry)) (now (supplied .entry)) (now (nodes .entry)) (now (sizes .entry)) r ⌝ }
-{
-    let count = nodes.len() / 4;
     let mut table = [0usize; 48];
     let mut j = 0;
     while j < count {
-        table[j] = node_size(maps, supplied, nodes, sizes, &table, j);
+        table[j] = u16_at(sizes, 2 * byte_at(node_regions, j));
         j += 1;
     }
     table
@@ -86,9 +74,8 @@ fn node_sizes(maps: &[u8], supplied: &[u8], nodes: &[u8], sizes: &[u8]) -> [usiz
 // Fills all nodes in order.
 pub fn fill_all(
     words: &mut [u64],
-    maps: &[u8],
-    supplied: &[u8],
     nodes: &[u8],
+    node_regions: &[u8],
     sizes: &[u8],
     entries: &[u8],
     members: &[u8],
@@ -96,11 +83,11 @@ pub fn fill_all(
     member_starts: &[usize],
     pieces: usize,
 )
-    requires { ⌜ AllReady (now maps) (now supplied) (now nodes) (now sizes) (now entries) (now members) (now «entry_starts») (now «member_starts») pieces (length (now words)) ⌝ }
-    ensures { λ _. ⌜ AllDone (now (maps .entry)) (now (supplied .entry)) (now (nodes .entry)) (now (sizes .entry)) (now (entries .entry)) (now (members .entry)) (now («entry_starts» .entry)) (now («member_starts» .entry)) pieces (now (words .entry)) (now (words .exit)) ⌝ }
+    requires { ⌜ FillReady (now nodes) (now «node_regions») (now sizes) (now entries) (now members) (now «entry_starts») (now «member_starts») pieces (length (now words)) ⌝ }
+    ensures { λ _. ⌜ ((P : Plan) (d : Bytes) → FillSources P d (now (nodes .entry)) (now («node_regions» .entry)) (now (sizes .entry)) (now (entries .entry)) (now (members .entry)) (now («entry_starts» .entry)) (now («member_starts» .entry)) pieces (length (now (words .entry))) → now (words .exit) ≡ filledWords P (dataOf d) (now (words .entry))) ⌝ }
 {
     let count = nodes.len() / 4;
-    let sizes_of_nodes = node_sizes(maps, supplied, nodes, sizes);
+    let sizes_of_nodes = node_sizes(sizes, node_regions, count);
     let mut j = 0;
     while j < count {
         fill_node(

@@ -1,4 +1,6 @@
 // The operators on one piece: its eight words are made from numbers, bytes, or the words of earlier pieces.
+use bitsets::words::SetOperator;
+use bitsets::words::bit_of;
 use bitsets::words::combine;
 use bitsets::words::eight_bytes;
 use bitsets::words::inside_bytes;
@@ -10,9 +12,10 @@ ghost use mathlib.Core.Path.{_≡_};
 ghost use Prim.Native.Nat.{_+_, _*_, _≤_, _<_, min};
 ghost use lib.ListN.{length};
 ghost use Rattle.model.specs.Bytes.{u16};
-ghost use Rattle.model.specs.Words.{digit, holds, fromBits, word, store};
-ghost use Rattle.bitsets.specs.Elements.{between, masked, combined, listed, bytesBits, entriesOf, through, wordAt, PieceOf};
-ghost use Rattle.subregions.specs.Operators.{Writing, PieceBytes, Copying, Combining, AddingEntries, EntriesAdded, Image, Targets, Operand, Lookup, Preimage};
+ghost use Rattle.model.specs.Words as Words;
+ghost use Rattle.model.specs.Words.{digit, fromBits, word, store};
+ghost use Rattle.bitsets.specs.Elements.{between, masked, combined, suppliedElements, bytesBits, entriesOf, through, wordAt, PieceOf};
+ghost use Rattle.subregions.specs.Operators.{WriteRoom, PieceBytesRoom, SuppliedPieceRoom, CombinedPieceRoom, EntriesRoom, EntriesAdded, ImagePieceRoom, TargetsTable, OperandSet, LookupRoom, PreimagePieceRoom};
 
 // An entry of a table as a number.
 fn wide(x: u16) -> usize
@@ -23,7 +26,7 @@ fn wide(x: u16) -> usize
 
 // The piece at word `at` becomes the first eight words of another.
 pub fn write_piece(words: &mut [u64], at: usize, piece: &[u64])
-    requires { ⌜ Writing (now words) (now piece) at ⌝ }
+    requires { ⌜ WriteRoom (now words) (now piece) at ⌝ }
     ensures { λ _. ⌜ now (words .exit) ≡ store (now (words .entry)) at 8 (wordAt (now (piece .entry))) ⌝ }
 {
     for w in 0..8 {
@@ -47,7 +50,7 @@ pub fn range_piece(low: usize, high: usize) -> [u64; 8]
 
 // Eight of a piece's bytes, which may all be known to be there.
 fn piece_bytes(members: &[u8], at: usize, inside: bool) -> u64
-    requires { ⌜ PieceBytes (now members) at inside ⌝ }
+    requires { ⌜ PieceBytesRoom (now members) at inside ⌝ }
     ensures { λ r. ⌜ r ≡ fromBits 64 (bytesBits (now (members .entry)) at) ⌝ }
 {
     if inside {
@@ -59,8 +62,8 @@ fn piece_bytes(members: &[u8], at: usize, inside: bool) -> u64
 
 // The set that a supplied partition's bytes list, within the mask.
 pub fn supplied_piece(members: &[u8], masks: &[u64], from: usize) -> [u64; 8]
-    requires { ⌜ Copying (now masks) from ⌝ }
-    ensures { λ r. ⌜ PieceOf (masked (now (masks .entry)) (listed (now (members .entry)) from)) r ⌝ }
+    requires { ⌜ SuppliedPieceRoom (now masks) from ⌝ }
+    ensures { λ r. ⌜ PieceOf (masked (now (masks .entry)) (suppliedElements (now (members .entry)) from)) r ⌝ }
 {
     let inside = from + 64 <= members.len();
     let mut piece = [0; 8];
@@ -72,15 +75,21 @@ pub fn supplied_piece(members: &[u8], masks: &[u64], from: usize) -> [u64; 8]
     piece
 }
 
-// The union (kind 2), intersection (3) or difference (4) of the pieces at a and b, within the mask.
-pub fn combined_piece(words: &[u64], masks: &[u64], kind: usize, a: usize, b: usize) -> [u64; 8]
-    requires { ⌜ Combining (now words) (now masks) a b ⌝ }
-    ensures { λ r. ⌜ PieceOf (masked (now (masks .entry)) (combined kind (holds (now (words .entry)) a) (holds (now (words .entry)) b))) r ⌝ }
+// The union, intersection or difference of the pieces at a and b, within the mask.
+pub fn combined_piece(
+    words: &[u64],
+    masks: &[u64],
+    operator: SetOperator,
+    a: usize,
+    b: usize,
+) -> [u64; 8]
+    requires { ⌜ CombinedPieceRoom (now words) (now masks) a b ⌝ }
+    ensures { λ r. ⌜ PieceOf (masked (now (masks .entry)) (combined operator (Words.holds (now (words .entry)) a) (Words.holds (now (words .entry)) b))) r ⌝ }
 {
     let mut piece = [0; 8];
     let mut w = 0;
     while w < 8 {
-        piece[w] = combine(kind, words[a + w], words[b + w]) & masks[w];
+        piece[w] = combine(operator, words[a + w], words[b + w]) & masks[w];
         w += 1;
     }
     piece
@@ -104,7 +113,7 @@ fn target(entries: &[u8], at: usize) -> usize
 // The elements that a map's entries lead to.
 pub fn targets(entries: &[u8], start: usize, count: usize) -> [u16; 512]
     requires { ⌜ (count ≤ 512) × (start + 2 * count ≤ length (now entries)) ⌝ }
-    ensures { λ r. ⌜ Targets (now (entries .entry)) start count r ⌝ }
+    ensures { λ r. ⌜ TargetsTable (now (entries .entry)) start count r ⌝ }
 {
     let mut table = [512; 512];
     let mut k = 0;
@@ -118,7 +127,7 @@ pub fn targets(entries: &[u8], start: usize, count: usize) -> [u16; 512]
 // The elements of the piece at a, within the mask, and a spare word for element 512.
 pub fn operand_set(words: &[u64], masks: &[u64], a: usize) -> [u64; 9]
     requires { ⌜ (a + 8 ≤ length (now words)) × (8 ≤ length (now masks)) ⌝ }
-    ensures { λ r. ⌜ Operand (now (words .entry)) (now (masks .entry)) a r ⌝ }
+    ensures { λ r. ⌜ OperandSet (now (words .entry)) (now (masks .entry)) a r ⌝ }
 {
     let mut set = [0; 9];
     let mut w = 0;
@@ -129,25 +138,17 @@ pub fn operand_set(words: &[u64], masks: &[u64], a: usize) -> [u64; 9]
     set
 }
 
-// Whether a set holds element e: 1 or 0.
-fn member(set: &[u64], e: usize) -> u64
-    requires { ⌜ (length (now set) ≡ 9) × (e ≤ 512) ⌝ }
-    ensures { λ r. ⌜ r ≡ digit (holds (now (set .entry)) 0 e) ⌝ }
-{
-    (set[e / 64] >> (e % 64)) & 1
-}
-
 // Whether a set holds the element that a table has for place k: 1 or 0.
 fn member_at(table: &[u16], set: &[u64], k: usize) -> u64
-    requires { ⌜ (k < 512) × Lookup (now table) (now set) ⌝ }
+    requires { ⌜ (k < 512) × LookupRoom (now table) (now set) ⌝ }
     ensures { λ r. ⌜ r ≡ digit (through (now (table .entry)) (now (set .entry)) k) ⌝ }
 {
-    member(set, wide(table[k]))
+    bit_of(set, 0, wide(table[k]))
 }
 
 // Word w of the places whose element is in the set, two places at a time from the highest down.
 fn preimage_word(table: &[u16], set: &[u64], w: usize) -> u64
-    requires { ⌜ (w < 8) × Lookup (now table) (now set) ⌝ }
+    requires { ⌜ (w < 8) × LookupRoom (now table) (now set) ⌝ }
     ensures { λ r. ⌜ r ≡ word (through (now (table .entry)) (now (set .entry))) w ⌝ }
 {
     let mut pairs = 32;
@@ -163,7 +164,7 @@ fn preimage_word(table: &[u16], set: &[u64], w: usize) -> u64
 
 // The places whose element is in the set; the words from place `count` on stay 0.
 pub fn preimage_piece(table: &[u16], set: &[u64], count: usize) -> [u64; 8]
-    requires { ⌜ Preimage (now table) (now set) count ⌝ }
+    requires { ⌜ PreimagePieceRoom (now table) (now set) count ⌝ }
     ensures { λ r. ⌜ PieceOf (through (now (table .entry)) (now (set .entry))) r ⌝ }
 {
     let mut piece = [0; 8];
@@ -177,7 +178,7 @@ pub fn preimage_piece(table: &[u16], set: &[u64], count: usize) -> [u64; 8]
 
 // Adds to a set the entries of a word's members; the entry of its first element stands at `start`.
 fn add_entries(set: &mut [u64; 9], entries: &[u8], start: usize, members: u64)
-    requires { ⌜ AddingEntries (now entries) start members ⌝ }
+    requires { ⌜ EntriesRoom (now entries) start members ⌝ }
     ensures { λ _. ⌜ EntriesAdded (now (entries .entry)) start members (now (set .entry)) (now (set .exit)) ⌝ }
 {
     let mut rest = members;
@@ -190,8 +191,8 @@ fn add_entries(set: &mut [u64; 9], entries: &[u8], start: usize, members: u64)
 
 // The image of the elements within the mask of the piece at a, and a spare word; the entries begin at a place.
 pub fn image_piece(words: &[u64], entries: &[u8], masks: &[u64], start: usize, a: usize) -> [u64; 9]
-    requires { ⌜ Image (now words) (now entries) (now masks) start a ⌝ }
-    ensures { λ r. ⌜ PieceOf (entriesOf 512 (now (entries .entry)) start (masked (now (masks .entry)) (holds (now (words .entry)) a))) r ⌝ }
+    requires { ⌜ ImagePieceRoom (now words) (now entries) (now masks) start a ⌝ }
+    ensures { λ r. ⌜ PieceOf (entriesOf 512 (now (entries .entry)) start (masked (now (masks .entry)) (Words.holds (now (words .entry)) a))) r ⌝ }
 {
     let mut set = [0; 9];
     let mut w = 0;

@@ -8,11 +8,12 @@ use crate::operators::range_piece;
 use crate::operators::supplied_piece;
 use crate::operators::targets;
 use crate::operators::write_piece;
+use bitsets::words::SetOperator;
 use bitsets::words::region_masks;
 ghost use mathlib.Core.Path.{_≡_};
 ghost use Prim.Native.Nat.{_+_, _*_, _≤_, min};
-ghost use Rattle.model.specs.Nodes.{UNION, INTERSECTION, DIFFERENCE};
 ghost use Rattle.model.specs.Words.{store};
+ghost use Rattle.bitsets.specs.declared.words.SetOperator.the-variants.{Union, Intersection, Difference};
 ghost use Rattle.subregions.specs.Pieces.{pieceWords, suppliedPieces, equalPieces, combinedPieces, imagePieces, preimagePieces, SuppliedRoom, EqualRoom, CombinedRoom, ImageRoom, PreimageRoom};
 
 // The pieces of a supplied partition, whose bytes begin at a place.
@@ -58,47 +59,22 @@ pub fn fill_equal(words: &mut [u64], size: usize, pieces: usize, at: usize)
     }
 }
 
-// The unions of the pieces from a and from b on, within a region's size.
-fn fill_union(words: &mut [u64], a: usize, b: usize, size: usize, pieces: usize, at: usize)
+// The unions of the pieces from a and from b on, within a region's size. Each operator has a loop of its own, so that
+// the compiler combines a piece's words two at a time without a test.
+pub fn fill_union(words: &mut [u64], a: usize, b: usize, size: usize, pieces: usize, at: usize)
     requires { ⌜ CombinedRoom (now words) a b pieces at ⌝ }
-    ensures { λ _. ⌜ now (words .exit) ≡ store (now (words .entry)) at (pieces * 8) (pieceWords (combinedPieces (now (words .entry)) UNION a b size)) ⌝ }
+    ensures { λ _. ⌜ now (words .exit) ≡ store (now (words .entry)) at (pieces * 8) (pieceWords (combinedPieces (now (words .entry)) Union a b size)) ⌝ }
 {
     let masks = region_masks(size);
     for i in 0..pieces {
-        let piece = combined_piece(words, &masks, 2, a + i * 8, b + i * 8);
+        let piece = combined_piece(words, &masks, SetOperator::Union, a + i * 8, b + i * 8);
         write_piece(words, at + i * 8, &piece);
     }
 }
 
 // The intersections of the pieces from a and from b on, within a region's size.
-fn fill_intersection(words: &mut [u64], a: usize, b: usize, size: usize, pieces: usize, at: usize)
-    requires { ⌜ CombinedRoom (now words) a b pieces at ⌝ }
-    ensures { λ _. ⌜ now (words .exit) ≡ store (now (words .entry)) at (pieces * 8) (pieceWords (combinedPieces (now (words .entry)) INTERSECTION a b size)) ⌝ }
-{
-    let masks = region_masks(size);
-    for i in 0..pieces {
-        let piece = combined_piece(words, &masks, 3, a + i * 8, b + i * 8);
-        write_piece(words, at + i * 8, &piece);
-    }
-}
-
-// The differences of the pieces from a and from b on, within a region's size.
-fn fill_difference(words: &mut [u64], a: usize, b: usize, size: usize, pieces: usize, at: usize)
-    requires { ⌜ CombinedRoom (now words) a b pieces at ⌝ }
-    ensures { λ _. ⌜ now (words .exit) ≡ store (now (words .entry)) at (pieces * 8) (pieceWords (combinedPieces (now (words .entry)) DIFFERENCE a b size)) ⌝ }
-{
-    let masks = region_masks(size);
-    for i in 0..pieces {
-        let piece = combined_piece(words, &masks, 4, a + i * 8, b + i * 8);
-        write_piece(words, at + i * 8, &piece);
-    }
-}
-
-// The unions (kind 2), intersections (3) or differences (4) of the pieces from a and from b on, within a region's size.
-// Each has a loop of its own, so that the compiler combines a piece's words two at a time without a test.
-pub fn fill_combined(
+pub fn fill_intersection(
     words: &mut [u64],
-    kind: usize,
     a: usize,
     b: usize,
     size: usize,
@@ -106,12 +82,30 @@ pub fn fill_combined(
     at: usize,
 )
     requires { ⌜ CombinedRoom (now words) a b pieces at ⌝ }
-    ensures { λ _. ⌜ now (words .exit) ≡ store (now (words .entry)) at (pieces * 8) (pieceWords (combinedPieces (now (words .entry)) kind a b size)) ⌝ }
+    ensures { λ _. ⌜ now (words .exit) ≡ store (now (words .entry)) at (pieces * 8) (pieceWords (combinedPieces (now (words .entry)) Intersection a b size)) ⌝ }
 {
-    match kind {
-        2 => fill_union(words, a, b, size, pieces, at),
-        3 => fill_intersection(words, a, b, size, pieces, at),
-        _ => fill_difference(words, a, b, size, pieces, at),
+    let masks = region_masks(size);
+    for i in 0..pieces {
+        let piece = combined_piece(
+            words,
+            &masks,
+            SetOperator::Intersection,
+            a + i * 8,
+            b + i * 8,
+        );
+        write_piece(words, at + i * 8, &piece);
+    }
+}
+
+// The differences of the pieces from a and from b on, within a region's size.
+pub fn fill_difference(words: &mut [u64], a: usize, b: usize, size: usize, pieces: usize, at: usize)
+    requires { ⌜ CombinedRoom (now words) a b pieces at ⌝ }
+    ensures { λ _. ⌜ now (words .exit) ≡ store (now (words .entry)) at (pieces * 8) (pieceWords (combinedPieces (now (words .entry)) Difference a b size)) ⌝ }
+{
+    let masks = region_masks(size);
+    for i in 0..pieces {
+        let piece = combined_piece(words, &masks, SetOperator::Difference, a + i * 8, b + i * 8);
+        write_piece(words, at + i * 8, &piece);
     }
 }
 

@@ -14,30 +14,6 @@ Inv-loop fd buffer₀ end₀ buffer end = (end ≤ length buffer) × (length buf
 abbrev μ-loop : tie.MeasureT-loop
 μ-loop fd buffer₀ end₀ buffer end = length buffer - end
 
-loop-holds : tie.Need-loop-holds Inv-loop μ-loop
-loop-holds c = search needs
-
-sub-read-once : tie.Need-sub-read-once Inv-loop μ-loop
-sub-read-once c = search needs
-
-part-read-once-start : tie.Need-part-read-once-start Inv-loop μ-loop
-part-read-once-start c = search needs
-
-part-read-once-end : tie.Need-part-read-once-end Inv-loop μ-loop
-part-read-once-end c = search needs
-
-read-once-requires : tie.Need-read-once-requires Inv-loop μ-loop
-read-once-requires c κs = search needs
-
-same-length : tie.Need-same-length Inv-loop μ-loop
-same-length c = search needs
-
-returns : tie.Need-returns Inv-loop μ-loop
-returns c = search needs
-
-same-length-2 : tie.Need-same-length-2 Inv-loop μ-loop
-same-length-2 c = search needs
-
 returns-2 : tie.Need-returns-2 Inv-loop μ-loop
 returns-2 c =
     let at-call = c .before .before .before .before .before .before in
@@ -45,18 +21,6 @@ returns-2 c =
     let after = putMid (at-loop .end) (length (at-loop .buffer) - at-loop .end) (at-loop .buffer) (at-call .read-once .last .1 .0) in
     let inside : at-loop .end ≤ length after = search needs in
     (inside, rw length-take-le)
-
-add-end : tie.Need-add-end Inv-loop μ-loop
-add-end c = search needs
-
-loop-less : tie.Need-loop-less Inv-loop μ-loop
-loop-less c = search needs
-
-loop-again : tie.Need-loop-again Inv-loop μ-loop
-loop-again c = search needs
-
-same-length-3 : tie.Need-same-length-3 Inv-loop μ-loop
-same-length-3 c = search needs
 
 returns-3 : tie.Need-returns-3 Inv-loop μ-loop
 returns-3 c =
@@ -69,17 +33,8 @@ read-all-spec =
     (tie.spec
     Inv-loop
     μ-loop
-    loop-holds
-    sub-read-once
-    part-read-once-start
-    part-read-once-end
-    read-once-requires
-    same-length
-    returns
-    same-length-2
+    (λ c. search needs) (λ c. search needs) (λ c. search needs) (λ c. search needs) (λ c κs. search needs) (λ c. search needs)
+    (λ c. search needs) (λ c. search needs)
     returns-2
-    add-end
-    loop-less
-    loop-again
-    same-length-3
+    (λ c. search needs) (λ c. search needs) (λ c. search needs) (λ c. search needs)
     returns-3)

@@ -1,15 +1,13 @@
--- What is left to scan is the whole scan's outcome; each map's entries lie in their section. Assumes nothing.
-use Prim.Native.Nat.{_-_, _/_, _≤_}
+-- Before each map, what is left to check decides the outcome (Scanning); its entries lie in their section. Assumes nothing.
+use Prim.Native.Nat.{_-_, _/_, _≤_, _<_}
 use mathlib.Core.Path.{_≡_, refl}
 use lib.ListN.{length}
-use Rattle.model.specs.Outcomes.{scan}
-use Rattle.model.specs.DataSets.{entriesCheck}
-use Rattle.model.proofs.Outcomes.{scan-start}
-use Rattle.dataset.specs.DataParts.{mapsPlan, entriesData}
-use Rattle.dataset.specs.SectionChecks.{allEntries}
-use Rattle.dataset.proofs.Loops.{scan-passed, scan-refused, scan-done}
-use Rattle.dataset.proofs.Starts.{map-placed}
 use borrow.Author.Needs.{needs}
+use Rattle.model.specs.Layout.{Plan, mapCount}
+use Rattle.model.specs.DataSets.{DataSet, entriesCheck}
+use Rattle.primitives.proofs.Scanning.{Scanning, scanning-start, scanning-next, scanning-refused, scanning-end}
+use Rattle.dataset.specs.Entries.{EntrySources, EntriesPlaced}
+use Rattle.dataset.proofs.Starts.{map-ready}
 use Rattle.dataset.proofs.entries.check_entries.Statement.{statement}
 use Rattle.dataset.proofs.entries.check_entries.Tie as tie
 
@@ -17,49 +15,40 @@ abbrev Inv-loop : tie.InvT-loop
 Inv-loop maps sizes entries starts count map₀ map =
     (count ≡ length maps / 3)
     × (map ≤ count)
-    × (scan (entriesCheck (mapsPlan maps) (entriesData sizes entries)) map (count - map) ≡ allEntries (mapsPlan maps) (entriesData sizes entries))
+    × ((P : Plan) (D : DataSet) → EntrySources P D maps sizes entries → EntriesPlaced P D starts → Scanning (entriesCheck P D) (mapCount P) map)
 
 abbrev μ-loop : tie.MeasureT-loop
 μ-loop maps sizes entries starts count map₀ map = count - map
 
 loop-holds : tie.Need-loop-holds Inv-loop μ-loop
-loop-holds c = (refl, search needs, scan-start _ _)
-
-mul-start : tie.Need-mul-start Inv-loop μ-loop
-mul-start c = search needs
-
-array-read-start : tie.Need-array-read-start Inv-loop μ-loop
-array-read-start c = search needs
+loop-holds c = (refl, search needs, λ P D known placed. scanning-start _ _)
 
 check-map-requires : tie.Need-check-map-requires Inv-loop μ-loop
-check-map-requires c κs = map-placed _ _ (c .before .loop .map) (c .before .before .before .before .before .pre) (c .loop-test .taken)
-
-enum-told : tie.Need-enum-told Inv-loop μ-loop
-enum-told c = search needs
-
-enum-known-refusal : tie.Need-enum-known-refusal Inv-loop μ-loop
-enum-known-refusal c = search needs
+check-map-requires c κs =
+    let turn = c .before in
+    map-ready (turn .before .loop .map) (turn .before .before .before .before .before .pre) (turn .loop-test .taken)
 
 returns : tie.Need-returns Inv-loop μ-loop
 returns c =
-    let l = c .before .before .before .before .before .loop in
-    let m = c .before .before .before in
-    scan-refused _ _ (l .map) (l .inv .2) (m .before .loop-test .taken) (m .check-map .ensures) (c .before .refusal .given .1)
-
-add-map : tie.Need-add-map Inv-loop μ-loop
-add-map c = search needs
-
-loop-less : tie.Need-loop-less Inv-loop μ-loop
-loop-less c = search needs
+    let checked = c .before .before .before in
+    let turn = checked .before .before in
+    λ P D known placed.
+    let lt : turn .before .loop .map < mapCount P = rw (known .maps-are) (turn .loop-test .taken) in
+    scanning-refused (turn .before .loop .inv .2 P D known placed) lt (checked .check-map .ensures P D known (placed .begin _ lt)) (c .before .refusal .given .1)
 
 loop-again : tie.Need-loop-again Inv-loop μ-loop
 loop-again c =
-    let l = c .before .before .before .before .loop in
-    let m = c .before .before in
-    (refl, search needs, scan-passed _ _ (l .map) (l .inv .2) (m .before .loop-test .taken) (m .check-map .ensures) (c .enum-told .given .1))
+    let checked = c .before .before in
+    let turn = checked .before .before in (
+      refl,
+      search needs,
+      λ P D known placed.
+          let lt : turn .before .loop .map < mapCount P = rw (known .maps-are) (turn .loop-test .taken) in
+          scanning-next (turn .before .loop .inv .2 P D known placed) lt (checked .check-map .ensures P D known (placed .begin _ lt)) (c .enum-told .given .1),
+    )
 
 returns-2 : tie.Need-returns-2 Inv-loop μ-loop
-returns-2 c = scan-done _ _ (c .before .loop .map) (c .before .loop .inv .2) (c .loop-test .left)
+returns-2 c = λ P D known placed. scanning-end (c .before .loop .inv .2 P D known placed) (rw (known .maps-are) (c .loop-test .left))
 
 pub check-entries-spec : {M : Type 1} → statement M
 check-entries-spec =
@@ -68,13 +57,10 @@ check-entries-spec =
     Inv-loop
     μ-loop
     loop-holds
-    mul-start
-    array-read-start
+    (λ c. search needs) (λ c. search needs)
     check-map-requires
-    enum-told
-    enum-known-refusal
+    (λ c. search needs) (λ c. search needs)
     returns
-    add-map
-    loop-less
+    (λ c. search needs) (λ c. search needs)
     loop-again
     returns-2)

@@ -2,8 +2,8 @@
 use Prim.Native.Nat.{_-_, _≤_}
 use mathlib.Core.Path.{_≡_, _∙_}
 use Rattle.model.specs.Tests.{every, _and_}
-use Rattle.dataset.specs.MapEntries.{entryFitsAt}
-use Rattle.dataset.proofs.Loops.{every-next, every-end}
+use Rattle.dataset.specs.Entries.{entryFitsAt}
+use Rattle.primitives.proofs.Searches.{every-next, every-end}
 use borrow.Author.Needs.{needs}
 use Rattle.dataset.proofs.entries.entries_fit.Statement.{statement}
 use Rattle.dataset.proofs.entries.entries_fit.Tie as tie
@@ -17,24 +17,6 @@ abbrev μ-loop : tie.MeasureT-loop
 loop-holds : tie.Need-loop-holds Inv-loop μ-loop
 unfolding every
 loop-holds c = search needs
-
-mul-u16-inside : tie.Need-mul-u16-inside Inv-loop μ-loop
-mul-u16-inside c = search needs
-
-add-u16-inside : tie.Need-add-u16-inside Inv-loop μ-loop
-add-u16-inside c = search needs
-
-u16-inside-requires : tie.Need-u16-inside-requires Inv-loop μ-loop
-u16-inside-requires c κs = search needs
-
-entry-fits-requires : tie.Need-entry-fits-requires Inv-loop μ-loop
-entry-fits-requires c κs = search needs
-
-add-element : tie.Need-add-element Inv-loop μ-loop
-add-element c = search needs
-
-loop-less : tie.Need-loop-less Inv-loop μ-loop
-loop-less c = search needs
 
 loop-again : tie.Need-loop-again Inv-loop μ-loop
 unfolding _and_
@@ -52,11 +34,6 @@ entries-fit-spec =
     Inv-loop
     μ-loop
     loop-holds
-    mul-u16-inside
-    add-u16-inside
-    u16-inside-requires
-    entry-fits-requires
-    add-element
-    loop-less
+    (λ c. search needs) (λ c. search needs) (λ c κs. search needs) (λ c κs. search needs) (λ c. search needs) (λ c. search needs)
     loop-again
     returns)

@@ -3,7 +3,7 @@ use Prim.Native.Nat.{_+_, _-_, _/_, _≤_}
 use mathlib.Core.Path.{_≡_, refl, _∙_}
 use Rattle.model.specs.Tests.{every, _and_}
 use Rattle.dataset.specs.Columns.{columnAt}
-use Rattle.dataset.proofs.Loops.{every-next, every-end}
+use Rattle.primitives.proofs.Searches.{every-next, every-end}
 use borrow.Author.Needs.{needs}
 use Rattle.dataset.proofs.supplied.columns_keep_flags.Statement.{statement}
 use Rattle.dataset.proofs.supplied.columns_keep_flags.Tie as tie
@@ -17,24 +17,9 @@ Inv-loop members start size pieces disjoint complete columns right₀ column₀ 
 abbrev μ-loop : tie.MeasureT-loop
 μ-loop members start size pieces disjoint complete columns right₀ column₀ right column = columns - column
 
-add-columns : tie.Need-add-columns Inv-loop μ-loop
-add-columns c = search needs
-
 loop-holds : tie.Need-loop-holds Inv-loop μ-loop
 unfolding every
 loop-holds c = search needs
-
-read-column-requires : tie.Need-read-column-requires Inv-loop μ-loop
-read-column-requires c κs = search needs
-
-column-keeps-flags-requires : tie.Need-column-keeps-flags-requires Inv-loop μ-loop
-column-keeps-flags-requires c κs = search needs
-
-add-column : tie.Need-add-column Inv-loop μ-loop
-add-column c = search needs
-
-loop-less : tie.Need-loop-less Inv-loop μ-loop
-loop-less c = search needs
 
 loop-again : tie.Need-loop-again Inv-loop μ-loop
 unfolding _and_
@@ -51,11 +36,8 @@ columns-keep-flags-spec =
     (tie.spec
     Inv-loop
     μ-loop
-    add-columns
+    (λ c. search needs)
     loop-holds
-    read-column-requires
-    column-keeps-flags-requires
-    add-column
-    loop-less
+    (λ c κs. search needs) (λ c κs. search needs) (λ c. search needs) (λ c. search needs)
     loop-again
     returns)

@@ -26,33 +26,9 @@ place c =
     let a = c .before .before .before .args in
     omega (arith, piece-inside (c .before .loop .piece) (a .pieces) ((a .size + 7) / 8) (c .loop-test .taken))
 
-add-width : tie.Need-add-width Inv-loop μ-loop
-add-width c = search needs
-
 loop-holds : tie.Need-loop-holds Inv-loop μ-loop
 unfolding united repeated
 loop-holds c = search needs
-
-mul-eight-bytes : tie.Need-mul-eight-bytes Inv-loop μ-loop
-mul-eight-bytes c = omega (arith, place c)
-
-add-eight-bytes : tie.Need-add-eight-bytes Inv-loop μ-loop
-add-eight-bytes c = omega (arith, place c)
-
-mul-eight-bytes-2 : tie.Need-mul-eight-bytes-2 Inv-loop μ-loop
-mul-eight-bytes-2 c = omega (arith, place c)
-
-add-eight-bytes-2 : tie.Need-add-eight-bytes-2 Inv-loop μ-loop
-add-eight-bytes-2 c = omega (arith, place c)
-
-eight-bytes-requires : tie.Need-eight-bytes-requires Inv-loop μ-loop
-eight-bytes-requires c κs = omega (arith, place c)
-
-add-piece : tie.Need-add-piece Inv-loop μ-loop
-add-piece c = search needs
-
-loop-less : tie.Need-loop-less Inv-loop μ-loop
-loop-less c = search needs
 
 loop-again : tie.Need-loop-again Inv-loop μ-loop
 unfolding united repeated
@@ -63,12 +39,6 @@ loop-again c =
       rw (add-one (l .piece), l .inv .2, c .eight-bytes .ensures),
       rw (add-one (l .piece), l .inv .2, l .inv .3, c .eight-bytes .ensures),
     )
-
-reverse-bytes-requires : tie.Need-reverse-bytes-requires Inv-loop μ-loop
-reverse-bytes-requires c κs = search needs
-
-reverse-bytes-requires-2 : tie.Need-reverse-bytes-requires-2 Inv-loop μ-loop
-reverse-bytes-requires-2 c κs = search needs
 
 returns : tie.Need-returns Inv-loop μ-loop
 returns c =
@@ -82,16 +52,10 @@ read-column-spec =
     (tie.spec
     Inv-loop
     μ-loop
-    add-width
+    (λ c. search needs)
     loop-holds
-    mul-eight-bytes
-    add-eight-bytes
-    mul-eight-bytes-2
-    add-eight-bytes-2
-    eight-bytes-requires
-    add-piece
-    loop-less
+    (λ c. omega (arith, place c)) (λ c. omega (arith, place c)) (λ c. omega (arith, place c)) (λ c. omega (arith, place c))
+    (λ c κs. omega (arith, place c)) (λ c. search needs) (λ c. search needs)
     loop-again
-    reverse-bytes-requires
-    reverse-bytes-requires-2
+    (λ c κs. search needs) (λ c κs. search needs)
     returns)

@@ -1,32 +1,29 @@
 -- The nodes, as they were read, and what steps p and q conclude are the rows' own. Assumes nothing.
+use borrow.Author.Needs.{needs}
 use Rattle.model.specs.Tests.{any, _and_, _or_, _==_}
 use Rattle.model.specs.Lemmas.{licence, licences, concludesSubset}
-use borrow.Author.Needs.{needs}
-use Rattle.expressions.proofs.RecordValues.{node-is}
-use Rattle.expressions.proofs.StepLaws.{said}
+use Rattle.expressions.proofs.NodeLaws.{node-is}
+use Rattle.expressions.proofs.StepLaws.{step-y, tells-subset}
 use Rattle.expressions.proofs.licences.map_licensed.Statement.{statement}
 use Rattle.expressions.proofs.licences.map_licensed.Tie as tie
 
 returns : tie.Need-returns
 unfolding licence licences concludesSubset any _and_ _or_ _==_
-returns c =
-    let two = c .before .before .before .before .before .before .before .before .before .before .before .before .before .before in
+returns c P nodes steps premises =
+    let kinds = c .before .before .before .before .before in
+    let two = kinds .before .before .before .before .before .before in
     let one = two .before .before in
     let last = one .before .before .before in
-    let read = last .before in
-    let y = read .before .before .node-at2 .ensures in
-    let start = read .before .before .before in
-    let x = start .node-at .ensures in
-    let known = start .before .before .before .pre in
-    let middle = read .byte-at .ensures .1 in
-    let s = said known in
+    let middle = last .before in
+    let y = middle .before .before .node-at2 .ensures in
+    let x = middle .before .before .before .node-at .ensures in
     rw (
-      s .p-subset (two .subset-key2 .ensures) (x .small-a) middle,
-      s .p-subset (one .subset-key .ensures) (x .small-a) (y .small-a),
-      node-is (last .node-at3 .ensures),
-      read .byte-at .ensures .0,
-      node-is y,
-      node-is x,
+      tells-subset (premises .p) (two .subset-key2 .ensures) (x .0 .a) (middle .byte-at .ensures .1),
+      tells-subset (premises .p) (one .subset-key .ensures) (x .0 .a) (y .0 .a),
+      node-is (last .node-at3 .ensures .1 P nodes),
+      step-y P _ steps (middle .byte-at .ensures .0),
+      node-is (y .1 P nodes),
+      node-is (x .1 P nodes),
     )
 
 pub map-licensed-spec : {M : Type 1} → statement M

@@ -1,4 +1,4 @@
--- The loop's invariant: what was found is the answer for the numbers passed. Assumes nothing.
+-- The loop's invariant: what was found is the answer for the keys passed. Assumes nothing.
 use Prim.Native.Nat.{_-_, _≤_}
 use mathlib.Core.Path.{_≡_, refl}
 use native.Mathlib.Numerals.{add-one}

@@ -1,70 +1,87 @@
--- The loop's invariant is Reading: the table so far, and what is left to scan. Assumes nothing.
-use Prim.Native.Nat.{_-_}
+-- Before each step, the table has what the earlier ones conclude, and what is left to check decides the outcome. Assumes nothing.
+use borrow.Author.Needs.{needs}
+use Prim.Native.Nat.{_-_, _≤_, _<_}
 use mathlib.Core.Path.{refl}
 use native.Mathlib.Omega.{arith}
+use Rattle.model.specs.Layout.{Plan, stepCount}
 use Rattle.model.proofs.Outcomes.{never}
-use Rattle.expressions.specs.Parts.{stepParts}
 use Rattle.primitives.proofs.Scanning.{scanning-start, scanning-next, scanning-refused, scanning-end}
-use Rattle.expressions.proofs.StepLaws.{Reading, next-turn, concluded}
-use borrow.Author.Needs.{needs}
+use Rattle.expressions.specs.Steps.{StepSources}
+use Rattle.expressions.proofs.StepLaws.{StepTable, StepsPassed, next-keys, concluded}
 use Rattle.expressions.proofs.steps.check_steps.Statement.{statement}
 use Rattle.expressions.proofs.steps.check_steps.Tie as tie
 
 abbrev Inv-loop : tie.InvT-loop
-Inv-loop maps supplied nodes steps conclusions₀ count t₀ conclusions t = Reading (stepParts maps supplied nodes steps) count conclusions t
+Inv-loop maps supplied nodes steps conclusions₀ count t₀ conclusions t =
+    StepTable steps count conclusions × ((P : Plan) → StepSources P maps supplied nodes steps → StepsPassed P conclusions t)
 
 abbrev μ-loop : tie.MeasureT-loop
 μ-loop maps supplied nodes steps conclusions₀ count t₀ conclusions t = count - t
 
 loop-holds : tie.Need-loop-holds Inv-loop μ-loop
-loop-holds c =
-    record {
-      counted = refl;
-      few = search needs;
-      room = search needs;
-      known = λ k lt. absurd (omega arith);
-      scanning = scanning-start _ _;
-    }
+loop-holds c = (
+  record { counted = refl; most = search needs; room = search needs },
+  λ P is. record { earlier = λ k lt. absurd (omega arith); scanning = scanning-start _ _ },
+)
 
 check-step-requires : tie.Need-check-step-requires Inv-loop μ-loop
 check-step-requires c κs =
-    let m = c .before .before in
-    let l = m .before .before .before .before .loop in
-    next-turn (l .conclusions) (omega arith) (m .before .before .step-at .ensures) (m .before .lemma-row .ensures) (m .conclusion-key .ensures) (l .inv .known)
+    let m = c .before .before .before in
+    record { bytes = m .before .step-at .ensures .0; listed = m .lemma-row .ensures; inside = search needs }
 
 returns : tie.Need-returns Inv-loop μ-loop
 returns c =
     let m = c .before .before .before in
-    let start = m .before .before .before .before .before .before in
-    let l = start .before .loop in
-    record {
-      outcome = scanning-refused (l .inv .scanning) (start .loop-test .taken) (m .check-step .ensures) (c .before .refusal .given .1);
-      room = search needs;
-      conclusions = λ h. never h;
-    }
+    let key = m .before .before .before in
+    let start = key .before .before .before in
+    let l = start .before .loop in (
+      search needs,
+      λ P is.
+          let passed = l .inv .1 P is in
+          let inside : l .t < stepCount P = rw (is .steps-are) (rw (l .inv .0 .counted) at (start .loop-test .taken)) in
+          let bytes = key .before .before .step-at .ensures .0 in
+          let read = key .before .before .step-at .ensures .1 P (is .steps-are) in
+          let keys = next-keys (l .conclusions) (omega arith) (passed .earlier) bytes read (key .before .lemma-row .ensures) (key .conclusion-key .ensures) in
+          record {
+            outcome = scanning-refused (passed .scanning) inside (m .check-step .ensures P is read keys) (c .before .refusal .given .1);
+            room = search needs;
+            conclusions = λ h. never h;
+          },
+    )
 
 loop-again : tie.Need-loop-again Inv-loop μ-loop
 loop-again c =
-    let m = c .before .before .before .before .before in
-    let start = m .before .before .before in
-    let l = start .before .loop in
-    let turn = next-turn (l .conclusions) (omega arith) (m .before .before .step-at .ensures) (m .before .lemma-row .ensures) (m .conclusion-key .ensures) (l .inv .known) in
-    record {
-      counted = l .inv .counted;
-      few = l .inv .few;
-      room = search needs;
-      known = λ k lt. turn .known k (omega arith);
-      scanning = scanning-next (l .inv .scanning) (start .loop-test .taken) (c .before .before .check-step .ensures) (c .enum-told .given .1);
-    }
+    let m = c .before .before in
+    let key = m .before .before .before in
+    let start = key .before .before .before in
+    let l = start .before .loop in (
+      record { counted = l .inv .0 .counted; most = l .inv .0 .most; room = search needs },
+      λ P is.
+          let passed = l .inv .1 P is in
+          let inside : l .t < stepCount P = rw (is .steps-are) (rw (l .inv .0 .counted) at (start .loop-test .taken)) in
+          let bytes = key .before .before .step-at .ensures .0 in
+          let read = key .before .before .step-at .ensures .1 P (is .steps-are) in
+          let keys = next-keys (l .conclusions) (omega arith) (passed .earlier) bytes read (key .before .lemma-row .ensures) (key .conclusion-key .ensures) in
+          record {
+            earlier = keys;
+            scanning = scanning-next (passed .scanning) inside (m .check-step .ensures P is read keys) (c .enum-told .given .1);
+          },
+    )
 
 returns-2 : tie.Need-returns-2 Inv-loop μ-loop
 returns-2 c =
     let l = c .before .loop in
-    record {
-      outcome = scanning-end (l .inv .scanning) (c .loop-test .left);
-      room = l .inv .room;
-      conclusions = λ h. concluded (l .inv .room) (λ i. c .before .before .shared-slice-known4 .given i .fits) (λ k lt. l .inv .known k (omega arith));
-    }
+    let counted = l .inv .0 .counted in (
+      l .inv .0 .room,
+      λ P is.
+          let passed = l .inv .1 P is in
+          let end : stepCount P ≤ l .t = rw (is .steps-are) (rw counted at (c .loop-test .left)) in
+          record {
+            outcome = scanning-end (passed .scanning) end;
+            room = l .inv .0 .room;
+            conclusions = λ h. concluded (l .inv .0 .room) (λ k lt. passed .earlier k (omega arith));
+          },
+    )
 
 pub check-steps-spec : {M : Type 1} → statement M
 check-steps-spec =

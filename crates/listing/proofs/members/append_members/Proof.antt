@@ -29,21 +29,12 @@ append-member-requires c κs =
     let args = at-loop .before .before .before .args in
     omega (arith, at-loop .loop .inv .2 .ends, members-short (now (args .words)) (args .first) (at-loop .loop .element))
 
-add-element : tie.Need-add-element Inv-loop μ-loop
-add-element c = search needs
-
-loop-less : tie.Need-loop-less Inv-loop μ-loop
-loop-less c = search needs
-
 loop-again : tie.Need-loop-again Inv-loop μ-loop
 unfolding membersText
 loop-again c =
     let at-loop = c .before .before .before .before .before in
     let call = c .before .before .append-member in
     (search needs, call .kept .0 ∙ at-loop .loop .inv .1, rw (add-one (at-loop .loop .element)) (behind (at-loop .loop .inv .2) (call .ensures)))
-
-same-length : tie.Need-same-length Inv-loop μ-loop
-same-length c = search needs
 
 returns : tie.Need-returns Inv-loop μ-loop
 returns c =
@@ -60,8 +51,7 @@ append-members-spec =
     μ-loop
     loop-holds
     append-member-requires
-    add-element
-    loop-less
+    (λ c. search needs) (λ c. search needs)
     loop-again
-    same-length
+    (λ c. search needs)
     returns)

@@ -2,8 +2,8 @@
 use mathlib.Core.Path.{sym}
 use Rattle.model.specs.Tests.{_and_, non}
 use Rattle.model.specs.Parallel.{reduces, uncentered}
-use Rattle.loops.proofs.Pairs.{kind-of-plan, operand-centered}
-use Rattle.loops.proofs.Harmless.{own-reduction}
+use Rattle.loops.proofs.Accesses.{operand-centered}
+use Rattle.loops.proofs.Parallelizable.{own-reduction}
 use borrow.Author.Needs.{needs}
 use Rattle.loops.proofs.parallel.is_pointer_reduction.Statement.{statement}
 use Rattle.loops.proofs.parallel.is_pointer_reduction.Tie as tie
@@ -14,7 +14,7 @@ returns c =
     λ P known inside. rw (
       c .before .is-reduce .ensures,
       c .before .before .before .access-of .ensures,
-      kind-of-plan P (known .section) _ (c .before .before .before .before .kind-at .ensures),
+      c .before .before .before .before .kind-at .ensures P (known .section),
       operand-centered P known _ inside (c .before .before .byte-at .ensures .0) (c .flag-at .ensures),
     )
     (sym (own-reduction P _))

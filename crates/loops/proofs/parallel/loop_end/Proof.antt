@@ -7,7 +7,7 @@ use lib.ListN.{length}
 use Rattle.model.specs.Tests.{Is}
 use Rattle.model.specs.Layout.{Plan}
 use Rattle.model.specs.Statements.{opens}
-use Rattle.loops.proofs.Pairs.{count-of-plan, opens-of-plan}
+use Rattle.loops.proofs.Accesses.{opens-of-kind}
 use Rattle.loops.proofs.Spans.{Own, own-start, own-next, span-to-for, span-to-end}
 use borrow.Author.Needs.{needs}
 use Rattle.loops.proofs.parallel.loop_end.Statement.{statement}
@@ -20,26 +20,38 @@ Inv-loop statements f t₀ t =
 abbrev μ-loop : tie.MeasureT-loop
 μ-loop statements f t₀ t = length statements / 4 - t
 
-opens-is : (m : tie.After-opens-loop Inv-loop μ-loop) (P : Plan) → P .statements ≡ now (m .before .before .before .before .before .args .statements) → m .opens-loop .result ≡ opens P (m .before .before .before .loop .t)
-opens-is m P section = opens-of-plan P _ section (m .before .kind-at .ensures) (m .opens-loop .ensures)
+opens-is : (m : tie.After-opens-loop Inv-loop μ-loop) (P : Plan) → (let l = m .before .before .before in
+    P .statements ≡ now (l .before .before .args .statements) → m .opens-loop .result ≡ opens P (l .loop .t))
+opens-is m P section = opens-of-kind P _ (m .before .kind-at .ensures P section) (m .opens-loop .ensures)
 
 loop-holds : tie.Need-loop-holds Inv-loop μ-loop
 loop-holds c = (search needs, search needs, λ P section o. own-start P _ o)
 
 returns : tie.Need-returns Inv-loop μ-loop
 returns c =
-    let l = c .before .before .before .before .loop in
-    (omega (arith, l .inv .1, c .before .before .before .before .before .before .pre .few), λ P section o. span-to-for P _ _ (rw (← count-of-plan P section) (l .inv .1)) (l .inv .2 P section o) (l .inv .0) (sym (opens-is (c .before) P section) ∙ c .if1 .taken))
+    let l = c .before .before .before .before in
+    let inv = l .loop .inv in
+    let few : l .loop .t ≤ 64 = omega (arith, inv .1, l .before .before .pre .few) in (
+      few,
+      λ P section o.
+          span-to-for P _ _ (rw section (inv .1)) (inv .2 P section o) (inv .0) (sym (opens-is (c .before) P section) ∙ c .if1 .taken),
+    )
 
 loop-again : tie.Need-loop-again Inv-loop μ-loop
 loop-again c =
-    let l = c .before .before .before .before .loop in
-    (search needs, search needs, λ P section o. own-next P _ _ (l .inv .0) (sym (opens-is (c .before) P section) ∙ c .if1 .left) (l .inv .2 P section o))
+    let inv = c .before .before .before .before .loop .inv in (
+      search needs,
+      search needs,
+      λ P section o.
+          own-next P _ _ (inv .0) (sym (opens-is (c .before) P section) ∙ c .if1 .left) (inv .2 P section o),
+    )
 
 returns-2 : tie.Need-returns-2 Inv-loop μ-loop
 returns-2 c =
-    let l = c .before .loop in
-    (omega (arith, l .inv .1, c .before .before .before .pre .few), λ P section o. span-to-end P _ _ (rw (← count-of-plan P section) (l .inv .1)) (l .inv .2 P section o) (rw (← count-of-plan P section) (c .loop-test .left)))
+    let l = c .before in
+    let inv = l .loop .inv in
+    let few : l .loop .t ≤ 64 = omega (arith, inv .1, l .before .before .pre .few) in
+    (few, λ P section o. span-to-end P _ _ (rw section (inv .1)) (inv .2 P section o) (rw section (c .loop-test .left)))
 
 pub loop-end-spec : {M : Type 1} → statement M
 loop-end-spec =

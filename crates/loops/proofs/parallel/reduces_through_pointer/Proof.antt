@@ -8,10 +8,9 @@ use Rattle.model.specs.Tests.{Is, any}
 use Rattle.model.specs.Layout.{Plan}
 use Rattle.model.specs.Statements.{opens}
 use Rattle.model.specs.Parallel.{reducesThroughPointer}
-use Rattle.loops.specs.Loops.{LoopSpan, PointersKnown, pointerReduction}
-use Rattle.model.proofs.Tests.{among}
-use Rattle.loops.proofs.Harmless.{other-reduction}
-use Rattle.loops.proofs.Spans.{none-before-loop, none-after-loop}
+use Rattle.loops.specs.Parallel.{LoopSpan, PointersKnown, pointerReduction}
+use Rattle.loops.proofs.Parallelizable.{other-reduction}
+use Rattle.loops.proofs.Spans.{none-start, none-end, some-found}
 use Rattle.primitives.proofs.Searches.{none-next}
 use borrow.Author.Needs.{needs}
 use Rattle.loops.proofs.parallel.reduces_through_pointer.Statement.{statement}
@@ -27,7 +26,8 @@ abbrev μ-loop : tie.MeasureT-loop
 abbrev Known : tie.Start Inv-loop μ-loop → Plan → Type 0
 Known a P = PointersKnown P (now (a .args .statements)) (now (a .args .operands)) (now (a .args .centered))
 
-span : (m : tie.After-loop-end Inv-loop μ-loop) (P : Plan) → (let a = m .before .before .before .before in Known a P → Is (opens P (a .args .f)) → LoopSpan P (a .args .f) (m .loop-end .result))
+span : (m : tie.After-loop-end Inv-loop μ-loop) (P : Plan) → (let a = m .before .before .before .before in
+    Known a P → Is (opens P (a .args .f)) → LoopSpan P (a .args .f) (m .loop-end .result))
 span m P known o = m .loop-end .ensures .1 P (known .section) o
 
 reduction-is : (m : tie.After-is-pointer-reduction Inv-loop μ-loop) (P : Plan) → (let a = m .before .before .before .before .before .before .before in
@@ -39,21 +39,26 @@ reduction-is m P known o =
     rw (← w .own (l .s) (l .inv .0) lt) (m .is-pointer-reduction .ensures P known (omega (arith, w .bound, lt)))
 
 loop-holds : tie.Need-loop-holds Inv-loop μ-loop
-loop-holds c = (search needs, λ P known o. none-before-loop P _ _ (other-reduction P _))
+loop-holds c = (search needs, λ P known o. none-start P _ _ (other-reduction P _))
 
 returns : tie.Need-returns Inv-loop μ-loop
 unfolding reducesThroughPointer pointerReduction
 returns c =
-    λ P known o. sym (among {f = pointerReduction P _} (_, omega (arith, span (c .before .before .before .before) P known o .bound, c .before .before .loop-test .taken), sym (reduction-is (c .before) P known o) ∙ c .if1 .taken))
+    let m = c .before in
+    λ P known o.
+    some-found (pointerReduction P _) (reduction-is m P known o) (span (m .before .before .before) P known o)
+    (m .before .loop-test .taken) (c .if1 .taken)
 
 loop-again : tie.Need-loop-again Inv-loop μ-loop
 loop-again c =
-    (search needs, λ P known o. none-next _ _ (c .before .before .before .loop .inv .1 P known o) (sym (reduction-is (c .before) P known o) ∙ c .if1 .left))
+    let m = c .before in
+    (search needs, λ P known o. none-next _ _ (m .before .before .loop .inv .1 P known o) (sym (reduction-is m P known o) ∙ c .if1 .left))
 
 returns-2 : tie.Need-returns-2 Inv-loop μ-loop
 unfolding reducesThroughPointer pointerReduction
 returns-2 c =
-    λ P known o. sym (none-after-loop P _ (pointerReduction P _) (other-reduction P _) (span (c .before .before) P known o) (c .loop-test .left) (c .before .loop .inv .1 P known o))
+    let l = c .before in
+    λ P known o. none-end P _ (pointerReduction P _) (other-reduction P _) (span (l .before) P known o) (c .loop-test .left) (l .loop .inv .1 P known o)
 
 pub reduces-through-pointer-spec : {M : Type 1} → statement M
 reduces-through-pointer-spec =

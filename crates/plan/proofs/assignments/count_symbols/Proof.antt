@@ -4,7 +4,7 @@ use mathlib.Core.Path.{_≡_}
 use lib.ListN.{length}
 use Rattle.model.specs.Layout.{Plan}
 use Rattle.model.specs.Needs.{symbol}
-use Rattle.plan.proofs.Numbering.{symbol-first, symbol-next, symbol-most, symbols-counted}
+use Rattle.plan.proofs.Symbols.{symbol-first, symbols-counted}
 use borrow.Author.Needs.{needs}
 use Rattle.plan.proofs.assignments.count_symbols.Statement.{statement}
 use Rattle.plan.proofs.assignments.count_symbols.Tie as tie
@@ -21,11 +21,8 @@ loop-holds c = (search needs, search needs, λ P e. symbol-first P)
 
 loop-again : tie.Need-loop-again Inv-loop μ-loop
 loop-again c =
-    let l = c .before .before .loop in (
-      search needs,
-      symbol-most _ _ _ (c .next-symbol .ensures) (l .inv .1),
-      λ P e. symbol-next P e _ (l .inv .2 P e) (c .next-symbol .ensures),
-    )
+    let next = c .next-symbol .ensures in
+    (search needs, next .0, λ P is. next .1 P is (c .before .before .loop .inv .2 P is))
 
 returns : tie.Need-returns Inv-loop μ-loop
 returns c = λ P e. symbols-counted P e (c .before .loop .inv .0) (c .loop-test .left) (c .before .loop .inv .2 P e)

@@ -8,9 +8,10 @@ use Rattle.plan.proofs.assignments.has_symbol.Tie as tie
 
 returns : tie.Need-returns
 unfolding hasSymbol opens accesses _or_
-returns c = rw (c .is-access .ensures, c .before .access-of .ensures, c .before .before .opens-loop .ensures, c .before .before .before .kind-at .ensures)
+returns c =
+    let kind = c .before .before .before in
+    λ P is. rw (c .is-access .ensures, c .before .access-of .ensures, c .before .before .opens-loop .ensures, kind .kind-at .ensures P is)
 
 pub has-symbol-spec : {M : Type 1} → statement M
 has-symbol-spec =
-    tie.close
-    (tie.spec (λ c κs. search needs) (λ c κs. search needs) (λ c κs. search needs) (λ c κs. search needs) returns)
+    tie.close (tie.spec (λ c κs. search needs) (λ c κs. search needs) (λ c κs. search needs) (λ c κs. search needs) returns)

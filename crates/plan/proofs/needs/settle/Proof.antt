@@ -1,87 +1,80 @@
--- What is left to settle is the whole outcome; while steps are searched, none before t concludes the claim. Assumes nothing.
-use Prim.Native.Nat.{ℕ, _-_, _≤_}
+-- Before each need, what is left to settle decides; before each step, what is left to search finds the need's step. Assumes nothing.
+use Prim.Native.Nat.{ℕ, _-_}
 use denote.Ref.{now}
-use mathlib.Core.Path.{_≡_, sym, _∙_}
 use mathlib.Core.Logic.{⊎-elim}
-use mathlib.Core.Bool.{Bool, false}
-use mathlib.Core.List.{List}
-use lib.ListN.{getD}
+use native.Mathlib.Omega.{arith}
+use lib.ListN.{getD, length-replicate}
 use borrow.Author.Needs.{needs as auto}
 use borrow.Author.Tests.{ne-eqb}
-use Rattle.model.specs.Tests.{any, _==_}
-use Rattle.model.specs.Outcomes.{scan}
-use Rattle.model.proofs.Tests.{same!, among}
-use Rattle.model.proofs.Outcomes.{scan-start, scan-next, scan-stop, scan-end}
-use Rattle.plan.specs.Needs.{settled}
-use Rattle.primitives.proofs.Searches.{none-before, none-next, none-at-end}
-use Rattle.plan.proofs.Settling.{isFound, not-wanted, concluded, unmet}
+use Rattle.model.specs.Tests.{_==_}
+use Rattle.model.proofs.Tests.{same! }
+use Rattle.primitives.proofs.Searching.{Searching, searching-start, searching-next, searching-found, searching-end}
+use Rattle.plan.proofs.Settling.{Searched, SettledBefore, settling-starts, settling-unasked, settling-found, settling-unmet, settling-ends}
 use Rattle.plan.proofs.needs.settle.Statement.{statement}
 use Rattle.plan.proofs.needs.settle.Tie as tie
 
-abbrev asks : List ℕ → ℕ → ℕ → Bool
-asks conclusions claim t = getD conclusions t 0 == claim
-
 abbrev Inv-steps : tie.InvT-steps
-Inv-steps claims symbols count conclusions steps i claim t₀ t = (t ≤ steps) × (any t (asks conclusions claim) ≡ false)
+Inv-steps needs symbols count conclusions steps found-steps i need t₀ t = Searching (λ t. getD conclusions t 0 == need) steps t
 
 abbrev μ-steps : tie.MeasureT-steps
-μ-steps claims symbols count conclusions steps i claim t₀ t = steps - t
+μ-steps needs symbols count conclusions steps found-steps i need t₀ t = steps - t
 
 abbrev Inv-needs : tie.InvT-needs
-Inv-needs claims symbols count conclusions steps i₀ i =
-    (i ≤ count) × (scan (settled claims symbols conclusions steps) i (count - i) ≡ scan (settled claims symbols conclusions steps) 0 count)
+Inv-needs needs symbols count conclusions steps found-steps₀ i₀ found-steps i = SettledBefore needs symbols count conclusions steps found-steps i
 
 abbrev μ-needs : tie.MeasureT-needs
-μ-needs claims symbols count conclusions steps i₀ i = count - i
+μ-needs needs symbols count conclusions steps found-steps₀ i₀ found-steps i = count - i
 
--- the search found a step where one concludes the claim
-found-is : (m : tie.Joined2 Inv-steps μ-steps Inv-needs μ-needs) →
+-- what the search ended with
+searched : (m : tie.Joined2 Inv-steps μ-steps Inv-needs μ-needs) →
     (let start = m .before .before .before .before .before .before .before in
-    isFound (m .if2 .found) ≡ any (start .args .steps) (asks (now (start .args .conclusions)) (getD (now (start .args .claims)) (m .before .before .before .before .before .needs .i) 0)))
-unfolding isFound
-found-is m =
-    let l = m .before .steps in
-    ⊎-elim (λ w. rw (w .1) (sym (none-at-end _ (l .t) _ (l .inv .0) (w .0 .taken) (l .inv .1))))
-    (λ w. rw (w .3) (sym (among (l .t, w .0 .left, same! (w .2 .taken)))))
+    let need = getD (now (start .args .needs)) (m .before .before .before .before .before .needs .i) 0 in
+    Searched (now (start .args .conclusions)) (start .args .steps) need (m .if2 .found))
+searched m =
+    let past = m .before .steps .inv in
+    ⊎-elim (λ w. rw (w .1, ← searching-end past (w .0 .taken)) (w .0 .taken)) (λ w. rw (w .3) (searching-found past (w .0 .left) (same! (w .2 .taken)), w .0 .left))
     (m .if2 .came)
 
 needs-holds : tie.Need-needs-holds Inv-steps μ-steps Inv-needs μ-needs
-needs-holds c = (search auto, scan-start _ _)
+needs-holds c = settling-starts _ _ _ _ _ (length-replicate {A = ℕ} 128 0)
 
 needs-again : tie.Need-needs-again Inv-steps μ-steps Inv-needs μ-needs
 needs-again c =
-    let o = c .before .before .before .needs in (
-      search auto,
-      sym (scan-next _ _ (o .i) (c .before .before .needs-test .taken) (not-wanted _ _ _ _ _ (same! (c .if1 .taken)))) ∙ o .inv .1,
-    )
-
-steps-holds : tie.Need-steps-holds Inv-steps μ-steps Inv-needs μ-needs
-steps-holds c = (search auto, none-before _)
+    let test = c .before .before in
+    settling-unasked _ _ _ _ _ (test .before .needs .inv) (test .needs-test .taken) (c .if1 .taken)
 
 steps-again : tie.Need-steps-again Inv-steps μ-steps Inv-needs μ-needs
 unfolding _==_
 steps-again c =
-    let l = c .before .before .before .steps in
-    (search auto, none-next _ (l .t) (l .inv .1) (ne-eqb _ _ (c .if3 .left)))
+    let test = c .before .before in
+    searching-next (test .before .steps .inv) (test .if2 .left) (ne-eqb _ _ (c .if3 .left))
+
+cast-found-steps : tie.Need-cast-found-steps Inv-steps μ-steps Inv-needs μ-needs
+cast-found-steps c =
+    let found = c .before in
+    let search = found .before .before in
+    let start = search .before .before .before .before .before .before .before in
+    let at = rw (found .found .given .1) at (searched search) in
+    omega (arith, at .1, start .pre .1)
 
 needs-again-2 : tie.Need-needs-again-2 Inv-steps μ-steps Inv-needs μ-needs
-unfolding isFound
 needs-again-2 c =
-    let o = c .before .before .before .before .before .before .before .needs in (
-      search auto,
-      sym (scan-next _ _ (o .i) (c .before .before .before .before .before .before .needs-test .taken) (concluded _ _ _ _ _ (sym (found-is (c .before .before)) ∙ rw (c .enum-told .given .1)))) ∙ o .inv .1,
-    )
+    let found = c .before in
+    let search = found .before .before in
+    let test = search .before .before .before .before in
+    let at = rw (found .found .given .1) at (searched search) in
+    settling-found _ _ _ _ _ (test .before .needs .inv) (test .needs-test .taken) (test .before .before .before .pre .0) (at .0) (at .1)
 
 returns : tie.Need-returns Inv-steps μ-steps Inv-needs μ-needs
-unfolding isFound _==_
 returns c =
-    let told = c .before in
-    let o = told .before .before .before .before .before .before .before .needs in
-    rw (c .byte-at .ensures .0)
-    (sym (scan-stop _ _ (o .i) (told .before .before .before .before .before .before .needs-test .taken) (unmet _ _ _ _ _ (ne-eqb _ _ (told .before .before .before .before .if1 .left)) (sym (found-is (told .before .before)) ∙ rw (told .enum-told2 .given .1)))) ∙ o .inv .1)
+    let told = c .before .before in
+    let search = told .before .before in
+    let test = search .before .before .before .before in
+    settling-unmet _ _ _ _ _ (test .before .needs .inv) (test .needs-test .taken) (search .before .before .if1 .left)
+    (rw (told .enum-told .given .1) at (searched search)) (c .unmet-need .ensures) (c .before .byte-at .ensures .0)
 
 returns-2 : tie.Need-returns-2 Inv-steps μ-steps Inv-needs μ-needs
-returns-2 c = sym (scan-end _ _ (c .before .needs .i) (c .needs-test .left)) ∙ c .before .needs .inv .1
+returns-2 c = settling-ends _ _ _ _ _ (c .before .needs .inv) (c .needs-test .left)
 
 pub settle-spec : {M : Type 1} → statement M
 settle-spec =
@@ -92,22 +85,15 @@ settle-spec =
     Inv-needs
     μ-needs
     needs-holds
-    (λ c. search auto)
-    (λ c. search auto)
-    (λ c. search auto)
-    (λ c. search auto)
+    (λ c. search auto) (λ c. search auto) (λ c. search auto) (λ c. search auto)
     needs-again
-    steps-holds
-    (λ c. search auto)
-    (λ c. search auto)
-    (λ c. search auto)
-    (λ c. search auto)
+    (λ c. searching-start _ _)
+    (λ c. search auto) (λ c. search auto) (λ c. search auto) (λ c. search auto)
     steps-again
     (λ c. search auto)
-    (λ c. search auto)
-    (λ c. search auto)
-    needs-again-2
-    (λ c. search auto)
-    (λ c κs. search auto)
+    cast-found-steps
+    (λ c. search auto) (λ c. search auto) (λ c κs. search auto) (λ c κs. search auto)
     returns
+    (λ c. search auto) (λ c. search auto)
+    needs-again-2
     returns-2)

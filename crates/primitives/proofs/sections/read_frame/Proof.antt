@@ -13,9 +13,6 @@ Inv-loop s sections boundaries₀ at₀ n₀ boundaries at n = (n ≤ sections) 
 abbrev μ-loop : tie.MeasureT-loop
 μ-loop s sections boundaries₀ at₀ n₀ boundaries at n = sections - n
 
-array-write-boundaries : tie.Need-array-write-boundaries Inv-loop μ-loop
-array-write-boundaries c = search needs
-
 loop-holds : tie.Need-loop-holds Inv-loop μ-loop
 loop-holds c = (omega arith, located-start _)
 
@@ -24,9 +21,6 @@ add-at c =
     let l = c .before .loop in
     let s = now (c .before .before .before .args .s) in
     omega (arith, l .inv .1 .place, boundary-most s (λ i. omega (arith, c .before .before .shared-slice-known .given i)) (l .n))
-
-u16-at-requires : tie.Need-u16-at-requires Inv-loop μ-loop
-u16-at-requires c κs = search needs
 
 add-at-2 : tie.Need-add-at-2 Inv-loop μ-loop
 add-at-2 c =
@@ -38,18 +32,6 @@ add-at-2 c =
       c .u16-at .ensures .1,
       boundary-most s (λ i. omega (arith, c .before .before .before .shared-slice-known .given i)) (l .n),
     )
-
-add-n : tie.Need-add-n Inv-loop μ-loop
-add-n c = search needs
-
-mul-boundaries : tie.Need-mul-boundaries Inv-loop μ-loop
-mul-boundaries c = search needs
-
-array-write-boundaries-2 : tie.Need-array-write-boundaries-2 Inv-loop μ-loop
-array-write-boundaries-2 c = search needs
-
-loop-less : tie.Need-loop-less Inv-loop μ-loop
-loop-less c = search needs
 
 loop-again : tie.Need-loop-again Inv-loop μ-loop
 loop-again c = (omega arith, located-next _ (c .before .before .loop .inv .1) (c .u16-at .ensures .0))
@@ -63,14 +45,11 @@ read-frame-spec =
     (tie.spec
     Inv-loop
     μ-loop
-    array-write-boundaries
+    (λ c. search needs)
     loop-holds
     add-at
-    u16-at-requires
+    (λ c κs. search needs)
     add-at-2
-    add-n
-    mul-boundaries
-    array-write-boundaries-2
-    loop-less
+    (λ c. search needs) (λ c. search needs) (λ c. search needs) (λ c. search needs)
     loop-again
     returns)

@@ -8,9 +8,9 @@ use native.Mathlib.Omega.{arith}
 use Rattle.model.specs.Tests.{Is, _or_, _==_}
 use Rattle.model.proofs.Tests.{both}
 use Rattle.model.specs.Words.{bit}
-use Rattle.subregions.specs.Operators.{Holding}
+use Rattle.subregions.specs.Operators.{SetOf}
 use Rattle.subregions.proofs.Maps.{gathered, gathered-none, gathered-next, gathered-all, entry-cut}
-use Rattle.subregions.proofs.Piece.{holding-same, holding-added}
+use Rattle.subregions.proofs.Piece.{set-same, set-added}
 use Rattle.subregions.proofs.Zeros.{Lowest, lowest}
 use borrow.Author.Needs.{needs}
 use Rattle.subregions.proofs.operators.add_entries.Statement.{statement}
@@ -18,7 +18,7 @@ use Rattle.subregions.proofs.operators.add_entries.Tie as tie
 
 abbrev Inv-loop : tie.InvT-loop
 Inv-loop set₀ entries start members rest₀ set rest = (rest ≤ members) × ((b : ℕ) → Is (bit rest b) → Is (bit members b))
-    × ((elements : ℕ → Bool) → Holding elements set₀ → Holding (gathered entries start members elements rest) set)
+    × ((elements : ℕ → Bool) → SetOf elements set₀ → SetOf (gathered entries start members elements rest) set)
 
 abbrev μ-loop : tie.MeasureT-loop
 μ-loop set₀ entries start members rest₀ set rest = rest
@@ -30,7 +30,7 @@ found c =
     lowest (l .rest) _ (omega (arith, l .inv .0, c .before .before .before .before .fits .members .fits)) (c .before .loop-test .taken) (c .lowest .ensures)
 
 loop-holds : tie.Need-loop-holds Inv-loop μ-loop
-loop-holds c = (le-refl _, λ b t. t, λ elements h. holding-same _ _ _ h (λ e l. gathered-none _ _ _ _ e))
+loop-holds c = (le-refl _, λ b t. t, λ elements h. set-same _ _ _ h (λ e l. gathered-none _ _ _ _ e))
 
 mul-target : tie.Need-mul-target Inv-loop μ-loop
 mul-target c = omega (arith, found c .inside)
@@ -58,7 +58,7 @@ loop-again c =
     let a = c .before .before .before .before .before .before .args in (
       omega (arith, and-le-l (l .rest) (l .rest - 1), l .inv .0),
       λ b t. l .inv .1 b (both (sym (n .cleared b) ∙ t) .0),
-      λ elements h. holding-added _ _ _ _ (omega (arith, c .before .target .ensures)) (l .inv .2 elements h)
+      λ elements h. set-added _ _ _ _ (omega (arith, c .before .target .ensures)) (l .inv .2 elements h)
           (λ e m. ap (λ (v : ℕ). gathered (a .entries .now) (a .start) (a .members) elements (l .rest) e or e == v) (c .before .target .ensures)
           ∙ ap (λ (t : Bool). gathered (a .entries .now) (a .start) (a .members) elements (l .rest) e or t) (entry-cut _ e m)
           ∙ gathered-next (a .entries .now) (a .start) (a .members) elements (l .rest) _ _ _ (n .inside) (n .member) (l .inv .1 _ (n .member)) refl (n .cleared) e),
@@ -66,7 +66,7 @@ loop-again c =
 
 returns : tie.Need-returns Inv-loop μ-loop
 returns c =
-    λ elements h. holding-same _ _ _ (c .before .loop .inv .2 elements h) (λ e l. gathered-all _ _ _ _ _ (c .loop-test .left) e)
+    λ elements h. set-same _ _ _ (c .before .loop .inv .2 elements h) (λ e l. gathered-all _ _ _ _ _ (c .loop-test .left) e)
 
 pub add-entries-spec : {M : Type 1} → statement M
 add-entries-spec =

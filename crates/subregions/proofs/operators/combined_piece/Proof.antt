@@ -8,10 +8,10 @@ use Rattle.subregions.proofs.operators.combined_piece.Statement.{statem
 use Rattle.subregions.proofs.operators.combined_piece.Tie as tie
 
 abbrev Inv-loop : tie.InvT-loop
-Inv-loop words masks kind a b piece₀ w₀ piece w = Made (masked masks (combined kind (holds words a) (holds words b))) piece w
+Inv-loop words masks operator a b piece₀ w₀ piece w = Made (masked masks (combined operator (holds words a) (holds words b))) piece w
 
 abbrev μ-loop : tie.MeasureT-loop
-μ-loop words masks kind a b piece₀ w₀ piece w = 8 - w
+μ-loop words masks operator a b piece₀ w₀ piece w = 8 - w
 
 loop-holds : tie.Need-loop-holds Inv-loop μ-loop
 loop-holds c = made-none _
@@ -21,7 +21,7 @@ loop-again c =
     let l = c .before .before .before .before .before .loop in
     let a = c .before .before .before .before .before .before .before .before .args in
     made-next _ _ _ _ (l .inv) (c .before .before .before .before .loop-test .taken)
-    (combined-word (a .words .now) (a .masks .now) (a .kind) (a .a) (a .b) (l .w) _ (c .before .combine .ensures))
+    (combined-word (a .words .now) (a .masks .now) (a .operator) (a .a) (a .b) (l .w) _ (c .before .combine .ensures))
 
 returns : tie.Need-returns Inv-loop μ-loop
 returns c = made-all _ _ _ (c .before .loop .inv) (c .loop-test .left)

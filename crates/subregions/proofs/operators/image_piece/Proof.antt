@@ -5,21 +5,21 @@ use Rattle.model.proofs.Tests.{both}
 use native.Mathlib.Omega.{arith}
 use Rattle.model.specs.Words.{holds}
 use Rattle.bitsets.specs.Elements.{masked, entriesOf}
-use Rattle.subregions.specs.Operators.{Holding}
+use Rattle.subregions.specs.Operators.{SetOf}
 use Rattle.subregions.proofs.Maps.{entries-none, entries-word}
-use Rattle.subregions.proofs.Piece.{holding-none, holding-same, holding-piece, masked-bit}
+use Rattle.subregions.proofs.Piece.{set-none, set-same, set-piece, masked-bit}
 use borrow.Author.Needs.{needs}
 use Rattle.subregions.proofs.operators.image_piece.Statement.{statement}
 use Rattle.subregions.proofs.operators.image_piece.Tie as tie
 
 abbrev Inv-loop : tie.InvT-loop
-Inv-loop words entries masks start a set₀ w₀ set w = (w ≤ 8) × Holding (entriesOf (64 * w) entries start (masked masks (holds words a))) set
+Inv-loop words entries masks start a set₀ w₀ set w = (w ≤ 8) × SetOf (entriesOf (64 * w) entries start (masked masks (holds words a))) set
 
 abbrev μ-loop : tie.MeasureT-loop
 μ-loop words entries masks start a set₀ w₀ set w = 8 - w
 
 loop-holds : tie.Need-loop-holds Inv-loop μ-loop
-loop-holds c = (omega arith, holding-none _ (λ e. entries-none _ _ _ e))
+loop-holds c = (omega arith, set-none _ (λ e. entries-none _ _ _ e))
 
 add-entries-requires : tie.Need-add-entries-requires Inv-loop μ-loop
 unfolding masked
@@ -36,7 +36,7 @@ loop-again : tie.Need-loop-again Inv-loop μ-loop
 loop-again c =
     let l = c .before .before .before .before .before .loop in (
       omega (arith, c .before .before .before .before .loop-test .taken),
-      holding-same _ _ _ (c .add-entries .ensures _ (l .inv .1)) (λ e h. entries-word _ _ _ (l .w) _ (masked-bit _ _ _ (l .w)) e),
+      set-same _ _ _ (c .add-entries .ensures _ (l .inv .1)) (λ e h. entries-word _ _ _ (l .w) _ (masked-bit _ _ _ (l .w)) e),
     )
 
 returns : tie.Need-returns Inv-loop μ-loop
@@ -44,7 +44,7 @@ returns c =
     let l = c .before .loop in
     let a = c .before .before .before .before .before .args in
     let all : l .w ≡ 8 = omega (arith, l .inv .0, c .loop-test .left) in
-    holding-piece _ _ (holding-same _ _ _ (l .inv .1)
+    set-piece _ _ (set-same _ _ _ (l .inv .1)
     (λ e h. ap (λ (n : ℕ). entriesOf (64 * n) (a .entries .now) (a .start) (masked (a .masks .now) (holds (a .words .now) (a .a))) e) all))
 
 pub image-piece-spec : {M : Type 1} → statement M

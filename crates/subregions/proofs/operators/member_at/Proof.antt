@@ -8,18 +8,18 @@ use borrow.Author.Needs.{needs}
 use Rattle.subregions.proofs.operators.member_at.Statement.{statement}
 use Rattle.subregions.proofs.operators.member_at.Tie as tie
 
-member-requires : tie.Need-member-requires
-member-requires c κs =
+bit-of-requires : tie.Need-bit-of-requires
+bit-of-requires c κs =
     let start = c .before .before .before .before in
-    (start .pre .1 .nine, omega (arith, c .wide .ensures, start .pre .1 .small (start .args .k) (start .pre .0)))
+    omega (arith, start .pre .1 .nine, c .wide .ensures, start .pre .1 .small (start .args .k) (start .pre .0))
 
 returns : tie.Need-returns
 unfolding through
 returns c =
-    let start = c .before .before .before .before .before in
-    c .member .ensures ∙ ap (λ (e : ℕ). digit (holds (start .args .set .now) 0 e)) (c .before .wide .ensures)
+    let set = c .before .before .before .before .before .args .set .now in
+    c .bit-of .ensures ∙ ap (λ (e : ℕ). digit (holds set 0 e)) (c .before .wide .ensures)
 
 pub member-at-spec : {M : Type 1} → statement M
 member-at-spec =
     tie.close
-    (tie.spec (λ c. search needs) (λ c. search needs) (λ c κs. search needs) member-requires returns)
+    (tie.spec (λ c. search needs) (λ c. search needs) (λ c κs. search needs) bit-of-requires returns)

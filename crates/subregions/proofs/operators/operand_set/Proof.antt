@@ -5,7 +5,7 @@ use native.Mathlib.Omega.{arith}
 use lib.Bits.{bitAnd}
 use lib.ListN.{length, getD, length-set}
 use lib.Seq.{getD-set-other}
-use Rattle.bitsets.proofs.Tables.{entry-next}
+use Rattle.primitives.proofs.Filling.{entry-next}
 use Rattle.subregions.proofs.Piece.{operand-made}
 use borrow.Author.Needs.{needs}
 use Rattle.subregions.proofs.operators.operand_set.Statement.{statement}
@@ -26,7 +26,7 @@ loop-again c =
     let a = c .before .before .before .before .args in (
       omega arith,
       length-set (l .set) (l .w) _ ∙ l .inv .1,
-      entry-next (l .set) (l .w) _ (λ k x. x ≡ bitAnd (getD (a .words .now) (a .a + k) 0) (getD (a .masks .now) k 0)) (omega arith) (l .inv .2) refl,
+      entry-next 0 (λ k x. x ≡ bitAnd (getD (a .words .now) (a .a + k) 0) (getD (a .masks .now) k 0)) (l .set) (l .w) _ (omega arith) (l .inv .2) refl,
       getD-set-other (l .set) (l .w) 8 _ 0 (λ q. absurd (omega arith)) ∙ l .inv .3,
     )
 

@@ -20,10 +20,10 @@ loop-holds c = made-none _
 preimage-word-requires : tie.Need-preimage-word-requires Inv-loop μ-loop
 preimage-word-requires c κs =
     let ready = c .before .before .before .before .pre in
-    (omega (arith, c .loop-test .taken, ready .few), ready .lookup)
+    (omega (arith, c .loop-test .taken, ready .few-elements), ready .lookup)
 
 loop-again : tie.Need-loop-again Inv-loop μ-loop
-loop-again c = made-next _ _ _ _ (c .before .before .loop .inv) (omega (arith, c .before .before .before .before .before .pre .few)) (c .preimage-word .ensures)
+loop-again c = made-next _ _ _ _ (c .before .before .loop .inv) (omega (arith, c .before .before .before .before .before .pre .few-elements)) (c .preimage-word .ensures)
 
 returns : tie.Need-returns Inv-loop μ-loop
 returns c = made-to _ _ _ (c .before .loop .inv) (λ k l m. empty-word _ k (λ e h n. c .before .before .before .before .pre .past e (omega arith) (omega arith)))

@@ -3,14 +3,14 @@ use Prim.Native.Nat.{_+_, _-_}
 use lib.ListN.{length}
 use borrow.Author.Tests.{leb-true}
 use native.Mathlib.Omega.{arith}
-use Rattle.bitsets.specs.Elements.{masked, listed}
-use Rattle.subregions.proofs.Piece.{Made, made-none, made-next, made-all, listed-word}
+use Rattle.bitsets.specs.Elements.{masked, suppliedElements}
+use Rattle.subregions.proofs.Piece.{Made, made-none, made-next, made-all, supplied-word}
 use borrow.Author.Needs.{needs}
 use Rattle.subregions.proofs.operators.supplied_piece.Statement.{statement}
 use Rattle.subregions.proofs.operators.supplied_piece.Tie as tie
 
 abbrev Inv-loop : tie.InvT-loop
-Inv-loop members masks from inside piece₀ w₀ piece w = Made (masked masks (listed members from)) piece w
+Inv-loop members masks from inside piece₀ w₀ piece w = Made (masked masks (suppliedElements members from)) piece w
 
 abbrev μ-loop : tie.MeasureT-loop
 μ-loop members masks from inside piece₀ w₀ piece w = 8 - w
@@ -28,7 +28,7 @@ loop-again c =
     let l = c .before .before .before .before .loop in
     let a = c .before .before .before .before .before .before .before .args in
     made-next _ _ _ _ (l .inv) (c .before .before .before .loop-test .taken)
-    (listed-word (a .masks .now) (a .members .now) (a .from) (l .w) _ _ (c .before .before .piece-bytes .ensures) (c .before .reverse-bytes .ensures))
+    (supplied-word (a .masks .now) (a .members .now) (a .from) (l .w) _ _ (c .before .before .piece-bytes .ensures) (c .before .reverse-bytes .ensures))
 
 returns : tie.Need-returns Inv-loop μ-loop
 returns c = made-all _ _ _ (c .before .loop .inv) (c .loop-test .left)

@@ -5,7 +5,7 @@ use native.Mathlib.Omega.{arith}
 use lib.ListN.{length, getD, length-set, length-replicate, getD-replicate}
 use lib.Seq.{getD-set-other}
 use Rattle.model.specs.Bytes.{u16}
-use Rattle.bitsets.proofs.Tables.{entry-next}
+use Rattle.primitives.proofs.Filling.{entry-next}
 use borrow.Author.Needs.{needs}
 use Rattle.subregions.proofs.operators.targets.Statement.{statement}
 use Rattle.subregions.proofs.operators.targets.Tie as tie
@@ -32,7 +32,7 @@ loop-again c =
     let a = c .before .before .before .before .args in (
       omega arith,
       length-set (l .table) (l .k) _ ∙ l .inv .1,
-      entry-next (l .table) (l .k) _ (λ n x. x ≡ min (u16 (a .entries .now) (a .start + 2 * n)) 512) (omega (arith, c .before .before .before .before .pre .0)) (l .inv .2) (c .target .ensures),
+      entry-next 0 (λ n x. x ≡ min (u16 (a .entries .now) (a .start + 2 * n)) 512) (l .table) (l .k) _ (omega (arith, c .before .before .before .before .pre .0)) (l .inv .2) (c .target .ensures),
       λ n h m. getD-set-other (l .table) (l .k) n _ 0 (λ q. absurd (omega arith)) ∙ l .inv .3 n (omega arith) m,
     )
 

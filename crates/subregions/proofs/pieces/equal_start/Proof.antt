@@ -1,6 +1,6 @@
 -- The product is small. Assumes nothing.
 use native.Mathlib.Omega.{arith}
-use Rattle.subregions.proofs.Piece.{product}
+use Rattle.subregions.proofs.NodePieces.{product}
 use borrow.Author.Needs.{needs}
 use Rattle.subregions.proofs.pieces.equal_start.Statement.{statement}
 use Rattle.subregions.proofs.pieces.equal_start.Tie as tie

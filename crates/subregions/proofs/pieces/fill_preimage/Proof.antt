@@ -1,10 +1,8 @@
 -- Piece by piece; the operand's pieces stand before those written. Assumes nothing.
-use Rattle.subregions.proofs.Maps.{leading-same}
-use Prim.Native.Nat.{_+_, _-_, _*_}
-use mathlib.Core.Path.{_∙_}
+use Prim.Native.Nat.{_-_}
 use native.Mathlib.Omega.{arith}
 use Rattle.subregions.specs.Pieces.{preimagePieces}
-use Rattle.subregions.proofs.Piece.{PiecesWritten, pieces-none, pieces-next, pieces-all, pieces-before, piece-stored, through-is, preimage-ready}
+use Rattle.subregions.proofs.NodePieces.{PiecesWritten, pieces-none, pieces-all, preimage-next, preimage-piece-room}
 use borrow.Author.Needs.{needs}
 use Rattle.subregions.proofs.pieces.fill_preimage.Statement.{statement}
 use Rattle.subregions.proofs.pieces.fill_preimage.Tie as tie
@@ -15,34 +13,29 @@ Inv-loop words₀ entries start count size a pieces at masks table i₀ words i 
 abbrev μ-loop : tie.MeasureT-loop
 μ-loop words₀ entries start count size a pieces at masks table i₀ words i = pieces - i
 
-loop-holds : tie.Need-loop-holds Inv-loop μ-loop
-loop-holds c = pieces-none _ _ _ _
-
 targets-requires : tie.Need-targets-requires Inv-loop μ-loop
-targets-requires c κs = (c .before .before .before .pre .small, c .before .before .before .pre .inside)
+targets-requires c κs = (c .before .before .before .pre .few-elements, c .before .before .before .pre .entries-inside)
 
 operand-set-requires : tie.Need-operand-set-requires Inv-loop μ-loop
 operand-set-requires c κs =
-    let s = c .before .before .before .before .before .before .before .before in
-    (omega (arith, s .pre .before, s .pre .room, c .before .before .before .loop .inv .as-long), c .before .before .before .before .before .region-masks .ensures .eight)
+    let masks = c .before .before .before .before .before in
+    let room = masks .before .before .before .pre in
+    (omega (arith, room .operand-before, room .room, c .before .before .before .loop .inv .as-long), masks .region-masks .ensures .eight)
 
 preimage-piece-requires : tie.Need-preimage-piece-requires Inv-loop μ-loop
 preimage-piece-requires c κs =
-    let s = c .before .before .before .before .before .before .before .before .before .before .before in
-    preimage-ready _ _ _ _ _ _ _ _ _ (s .pre .target-small) (c .before .before .before .before .before .before .before .before .region-masks .ensures) (c .before .before .before .before .before .before .before .targets .ensures) (c .before .before .operand-set .ensures) (s .pre .small)
+    let known = c .before .before .before .before .before .before .before in
+    let room = known .before .before .before .before .pre in
+    preimage-piece-room _ _ _ _ _ _ _ _ _ (room .few-targets) (known .before .region-masks .ensures) (known .targets .ensures)
+    (c .before .before .operand-set .ensures) (room .few-elements)
 
 loop-again : tie.Need-loop-again Inv-loop μ-loop
-unfolding preimagePieces
 loop-again c =
-    let l = c .before .before .before .before .before .before .before .before .before .before .before .before .loop in
-    let s = c .before .before .before .before .before .before .before .before .before .before .before .before .before .before .before .before .before in
-    pieces-next _ _ _ _ (l .words) _ (l .i) _ (l .inv) (c .before .before .before .before .before .before .before .before .before .before .before .loop-test .taken) (piece-stored _ _ _ _ _ (c .before .before .before .before .before .preimage-piece .ensures) (c .before .before .write-piece .ensures))
-    (λ e h. through-is _ _ _ _ _ _ _ _ _ (s .pre .target-small) (c .before .before .before .before .before .before .before .before .before .before .before .before .before .before .region-masks .ensures) (c .before .before .before .before .before .before .before .before .before .before .before .before .before .targets .ensures) (c .before .before .before .before .before .before .before .before .operand-set .ensures) e h
-    ∙ leading-same _ _ _ (s .args .size) _ _
-    (λ k m. pieces-before _ _ _ _ _ (l .i) (s .args .a + l .i * 8) k (l .inv) (omega (arith, s .pre .before)) (omega (arith, s .pre .target-small))) e)
-
-returns : tie.Need-returns Inv-loop μ-loop
-returns c = pieces-all _ _ _ _ _ _ (c .before .loop .inv) (c .loop-test .left)
+    let set = c .before .before .before .before .before .before .before .before in
+    let turn = set .before .before .before in
+    let known = turn .before .before in
+    preimage-next (known .before .before .before .before .pre) (known .before .region-masks .ensures) (known .targets .ensures) (turn .before .loop .inv) (turn .loop-test .taken)
+    (set .operand-set .ensures) (c .before .before .before .before .before .preimage-piece .ensures) (c .before .before .write-piece .ensures)
 
 pub fill-preimage-spec : {M : Type 1} → statement M
 fill-preimage-spec =
@@ -52,7 +45,7 @@ fill-preimage-spec =
     μ-loop
     (λ c κs. search needs)
     targets-requires
-    loop-holds
+    (λ c. pieces-none)
     (λ c. search needs) (λ c. search needs) (λ c. search needs)
     operand-set-requires
     (λ c. search needs) (λ c. search needs)
@@ -60,4 +53,4 @@ fill-preimage-spec =
     (λ c. search needs) (λ c. search needs) (λ c. search needs) (λ c κs. search needs) (λ c. search needs) (λ c. search needs)
     loop-again
     (λ c. search needs)
-    returns)
+    (λ c. pieces-all (c .before .loop .inv) (c .loop-test .left)))

@@ -1,0 +1,29 @@
+-- The plans that section 4's reader speaks of, and what it answers of them.
+use mathlib.Core.Path.{_≡_}
+use Rattle.model.specs.Bytes.{Bytes}
+use Rattle.model.specs.Outcomes.{_then_, scan}
+use Rattle.model.specs.Layout.{Plan, statementCount}
+use Rattle.model.specs.Statements.{statementCheck}
+use Rattle.model.specs.Parallel.{loopCheck}
+use Rattle.model.specs.declared.Outcome.{Outcome}
+use Rattle.model.specs.declared.Outcome.the-variants.{Pass}
+use Rattle.loops.specs.declared.section.CheckedStatements.{CheckedStatements}
+use Rattle.loops.specs.Tables.{StatementTables}
+
+module _ (P : Plan) where
+  -- a plan of these regions, maps and statements
+  pub record StatementSources (regions maps statements : Bytes) : Type 0 where
+    pub regions-are : P .regions ≡ regions
+    pub maps-are : P .maps ≡ maps
+    pub statements-are : P .statements ≡ statements
+
+  abbrev pub statementsCheck : Outcome
+  statementsCheck = scan (statementCheck P) 0 (statementCount P)
+
+  abbrev pub loopsCheck : Outcome
+  loopsCheck = scan (loopCheck P) 0 (statementCount P)
+
+  -- the outcome of section 4 and its loops and, after a pass, the tables of the statements
+  pub record StatementsChecked (r : CheckedStatements) : Type 0 where
+    pub outcome : r .outcome ≡ (statementsCheck then loopsCheck)
+    pub tables : r .outcome ≡ Pass → StatementTables P (statementCount P) (r .operands) (r .«variable_regions») (r .centered)
