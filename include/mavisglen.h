@@ -1,11 +1,9 @@
-/* Partition plans: checking, and evaluating over a data set. docs/FORMAT.md has the byte formats
- * and the table of refusals.
+/* Partition plans: checking, and evaluating over a data set. docs/FORMAT.md has the byte formats, the words and the
+ * table of refusals. Link with libmavisglen.a (x86-64).
  *
- * An answer is one number. Its low 8 bits are the number of the refusal, 0 for an acceptance. Above them stands
- * the refusal's place; for an acceptance bits 8 to 15 are the number of symbols, 16 to 23 of nodes, 24 to 31 of steps.
+ * The functions keep no state and allocate nothing. Threads may call them at the same time, each with words of its own.
  *
- * A pointer may be null only where its length is 0. The functions keep no state, allocate nothing and write nothing
- * but the words lent to mavisglen_evaluate. Those must not overlap the plan or the data set.
+ * SPDX-License-Identifier: MIT OR Apache-2.0
  */
 #ifndef MAVISGLEN_H
 #define MAVISGLEN_H
@@ -17,14 +15,90 @@
 extern "C" {
 #endif
 
-/* Checks a plan: acceptance, or a refusal of the plan (1 to 11). */
+/* As many words as any plan needs: 48 nodes of 16 pieces of 8 words. */
+#define MAVISGLEN_MOST_WORDS 6144
+
+/* The number of an answer: 0, or a refusal's. Behind the meaning of each refusal stands what its place is; the first in
+ * the order of docs/FORMAT.md is given. */
+enum mavisglen_answer_number {
+    MAVISGLEN_ACCEPTED = 0,
+    MAVISGLEN_TRUNCATED = 1,          /* the plan ends before a section does: the section, 0 for no bytes */
+    MAVISGLEN_UNKNOWN_EDITION = 2,    /* the plan's first byte is not 1: 0 */
+    MAVISGLEN_TRAILING_BYTES = 3,     /* bytes follow the plan's last section: their offset */
+    MAVISGLEN_INVALID_LENGTH = 4,     /* a section is not of whole records, or of too many or too few: the section */
+    MAVISGLEN_INVALID_RECORD = 5,     /* a record's value is out of range: section * 256 + record */
+    MAVISGLEN_REGION_MISMATCH = 6,    /* a record's regions disagree: section * 256 + record */
+    MAVISGLEN_DUPLICATE_NODE = 7,     /* a node equals an earlier one: its record */
+    MAVISGLEN_NOT_PARALLELIZABLE = 8, /* a loop is not parallelizable: its FOR's record */
+    MAVISGLEN_ASSIGNMENT_COUNT = 9,   /* there is not one assignment for each symbol: the number of symbols */
+    MAVISGLEN_UNLICENSED_STEP = 10,   /* a step does not follow by its lemma: the step */
+    MAVISGLEN_UNMET_NEED = 11,        /* no step concludes a need: the symbol that has it */
+    MAVISGLEN_INVALID_DATA = 12,      /* the data set's edition, lengths, pieces or sizes are wrong: 0 */
+    MAVISGLEN_INVALID_ENTRY = 13,     /* a map's entry is out of range, or none in a total map: map * 512 + element */
+    MAVISGLEN_INVALID_PARTITION = 14, /* a supplied partition breaks a declared flag or has a bit past its last element:
+                                         its number */
+    MAVISGLEN_OUTPUT_TOO_SMALL = 15   /* fewer words are lent than nodes * pieces * 8: that product */
+};
+
+/* Checks a plan: an acceptance, or a refusal of the plan (1 to 11).
+ * Asks: plan_len bytes can be read at plan; plan may be null where plan_len is 0.
+ * Writes: nothing. */
 uint64_t mavisglen_check(const uint8_t *plan, size_t plan_len);
 
-/* Evaluates a plan over a data set into the lent words: acceptance, or a refusal of the plan, the data set
- * or the lent words (1 to 15).
- * After an acceptance the words hold the nodes' subregions; later words, and all words after a refusal, are unchanged. */
+/* Evaluates a plan over a data set into the lent words: an acceptance, or a refusal of the plan (1 to 11), of the data
+ * set (12 to 14) or of the number of words (15).
+ * Asks: plan_len bytes can be read at plan and data_len at data, which may overlap each other; words_len words, aligned
+ * as uint64_t is, can be read and written at words, and overlap neither; a pointer may be null where its length is 0.
+ * The words may hold anything.
+ * Writes: after an acceptance the first nodes * pieces * 8 words, the nodes' subregions; after a refusal nothing. */
 uint64_t mavisglen_evaluate(const uint8_t *plan, size_t plan_len, const uint8_t *data, size_t data_len,
                             uint64_t *words, size_t words_len);
+
+/* Every answer is a number in the low 8 bits, and above them the value that goes with it. */
+
+static inline unsigned mavisglen_number(uint64_t answer)
+{
+    return (unsigned)(answer & 0xFF);
+}
+
+static inline uint64_t mavisglen_value(uint64_t answer)
+{
+    return answer >> 8;
+}
+
+static inline int mavisglen_accepted(uint64_t answer)
+{
+    return mavisglen_number(answer) == MAVISGLEN_ACCEPTED;
+}
+
+/* A refusal's place; 0 for an acceptance. */
+static inline uint64_t mavisglen_place(uint64_t answer)
+{
+    return mavisglen_accepted(answer) ? 0 : mavisglen_value(answer);
+}
+
+/* What stands in the 8 bits of an acceptance's value from this one on; 0 for a refusal. */
+static inline unsigned mavisglen_count_from(uint64_t answer, unsigned bit)
+{
+    return mavisglen_accepted(answer) ? (unsigned)((mavisglen_value(answer) >> bit) & 0xFF) : 0;
+}
+
+/* The counts of an accepted plan, checked or evaluated; 0 for a refusal. */
+
+static inline unsigned mavisglen_symbols(uint64_t answer)
+{
+    return mavisglen_count_from(answer, 0);
+}
+
+static inline unsigned mavisglen_nodes(uint64_t answer)
+{
+    return mavisglen_count_from(answer, 8);
+}
+
+static inline unsigned mavisglen_steps(uint64_t answer)
+{
+    return mavisglen_count_from(answer, 16);
+}
 
 #ifdef __cplusplus
 }

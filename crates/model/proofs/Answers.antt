@@ -26,28 +26,28 @@ unfoldable refusalAt : ℕ → ℕ → Outcome
 refusalAt n p = getD (Pass ∷ map (λ make. Refuse (make p)) refusals) n Pass
 
 -- what a refusal tells has no counts, and its number and place stand for it
-abbrev Listed : Refusal → Type 0
-Listed r =
+abbrev StandsFor : Refusal → Type 0
+StandsFor r =
     (refusalReport r ≡ refusal (refusalReport r .number) (refusalReport r .place))
     × (refusalAt (refusalReport r .number) (refusalReport r .place) ≡ Refuse r)
 
-listed : (r : Refusal) → Listed r
+stands-for : (r : Refusal) → StandsFor r
 unfolding refusals refusalAt
-listed (Truncated p) = (refl, refl)
-listed UnknownEdition = (refl, refl)
-listed (TrailingBytes p) = (refl, refl)
-listed (InvalidLength p) = (refl, refl)
-listed (InvalidRecord p) = (refl, refl)
-listed (RegionMismatch p) = (refl, refl)
-listed (DuplicateNode p) = (refl, refl)
-listed (NotParallelizable p) = (refl, refl)
-listed (AssignmentCount p) = (refl, refl)
-listed (UnlicensedStep p) = (refl, refl)
-listed (UnmetNeed p) = (refl, refl)
-listed InvalidData = (refl, refl)
-listed (InvalidEntry p) = (refl, refl)
-listed (InvalidPartition p) = (refl, refl)
-listed (OutputTooSmall p) = (refl, refl)
+stands-for (Truncated p) = (refl, refl)
+stands-for UnknownEdition = (refl, refl)
+stands-for (TrailingBytes p) = (refl, refl)
+stands-for (InvalidLength p) = (refl, refl)
+stands-for (InvalidRecord p) = (refl, refl)
+stands-for (RegionMismatch p) = (refl, refl)
+stands-for (DuplicateNode p) = (refl, refl)
+stands-for (NotParallelizable p) = (refl, refl)
+stands-for (AssignmentCount p) = (refl, refl)
+stands-for (UnlicensedStep p) = (refl, refl)
+stands-for (UnmetNeed p) = (refl, refl)
+stands-for InvalidData = (refl, refl)
+stands-for (InvalidEntry p) = (refl, refl)
+stands-for (InvalidPartition p) = (refl, refl)
+stands-for (OutputTooSmall p) = (refl, refl)
 
 -- a number that stands for a refusal is one of the table's: 0 is left to acceptance, 255 to no answer of these
 number-of : (r : Refusal) (n p : ℕ) → refusalAt n p ≡ Refuse r → (1 ≤ n) × (n < 255)
@@ -65,10 +65,10 @@ number-of r (suc n) p e =
 
 module _ (r : Refusal) where
   stands : refusalAt (refusalReport r .number) (refusalReport r .place) ≡ Refuse r
-  stands = listed r .1
+  stands = stands-for r .1
 
   pub no-counts : refusalReport r ≡ refusal (refusalReport r .number) (refusalReport r .place)
-  no-counts = listed r .0
+  no-counts = stands-for r .0
 
   pub number-in-table : (1 ≤ refusalReport r .number) × (refusalReport r .number < 255)
   number-in-table = number-of r _ _ stands

@@ -191,17 +191,17 @@ module _ (P : Plan) (D : DataSet) (F : Facts P) where
 
   -- a node's region is one of the plan's
   pub region-listed : (j : ℕ) → j < nodeCount P → nodeRegion P j < regionCount P
-  region-listed = by-earlier Listed (λ j earlier lt. by-kind j earlier (view j lt))
+  region-listed = by-earlier OfRegion (λ j earlier lt. by-kind j earlier (view j lt))
     where
-      Listed : ℕ → Type 0
-      Listed j = j < nodeCount P → nodeRegion P j < regionCount P
+      OfRegion : ℕ → Type 0
+      OfRegion j = j < nodeCount P → nodeRegion P j < regionCount P
 
       as-left :
-          (j : ℕ) {operator : Partition → Partition → Partition} → ((k : ℕ) → k < j → Listed k) → TwoOperands P D j operator →
+          (j : ℕ) {operator : Partition → Partition → Partition} → ((k : ℕ) → k < j → OfRegion k) → TwoOperands P D j operator →
           nodeRegion P j < regionCount P
       as-left j earlier n = rw (n .left-region) (earlier (nodeA P j) (n .left-earlier) (n .left-listed))
 
-      by-kind : (j : ℕ) → ((k : ℕ) → k < j → Listed k) → NodeView P D j → nodeRegion P j < regionCount P
+      by-kind : (j : ℕ) → ((k : ℕ) → k < j → OfRegion k) → NodeView P D j → nodeRegion P j < regionCount P
       by-kind j earlier (is-supplied n) = rw (n .region) (F .supplied-listed (nodeA P j) (n .listed))
       by-kind j earlier (is-equal n) = rw (n .region) (n .listed)
       by-kind j earlier (is-union n) = as-left j earlier n

@@ -1,0 +1,37 @@
+-- An export keeps its promise where it returns the number of an answer that keeps the entry point's: what the answer reports is what the
+-- definition reports, and that can be read from its number. Assumes nothing.
+use Prim.Native.Nat.{ℕ}
+use mathlib.Core.Path.{_≡_, sym, ap, _∙_}
+use mathlib.Core.List.{List}
+use lib.ListN.{length}
+use Rattle.model.specs.Bytes.{Bytes}
+use Rattle.model.specs.Verdict.{verdict}
+use Rattle.model.specs.Evaluation.{evaluation}
+use Rattle.model.specs.Packed.{Packing, packedBy, unpackedBy, answerPacking, packed}
+use Rattle.model.specs.Promises.{CheckPromise, EvaluationPromise}
+use Rattle.model.specs.declared.Answer.{Answer}
+use Rattle.model.proofs.Answers.{report-injective}
+use Rattle.model.proofs.Packed.{verdict-read, evaluation-read}
+use Rattle.mavisglen.specs.Exported.{Exported, ExportedCheck, ExportedEvaluation}
+
+-- for answers of any type that what they report determines; `defined` is what the definition answers
+exported :
+    {A R : Type 0} (packing : Packing A R) → ((r s : A) → packing .report r ≡ packing .report s → r ≡ s) → (Promise : A → Type 0) (result : ℕ)
+    (r defined : A) → result ≡ packedBy packing r → packing .report r ≡ packing .report defined →
+    unpackedBy packing (packedBy packing defined) ≡ packing .report defined → Promise r → Exported packing Promise result
+exported packing determined Promise result r defined e same read h =
+    record {
+      answer = r;
+      packs = e;
+      reads = ap (unpackedBy packing) (e ∙ ap (packedBy packing) (determined r defined same)) ∙ read ∙ sym same;
+      promise = h;
+    }
+
+module _ (result : ℕ) (r : Answer) (e : result ≡ packed r) where
+  pub exported-check : (p : Bytes) → CheckPromise p r → ExportedCheck p result
+  exported-check p h = exported answerPacking report-injective (CheckPromise p) result r (verdict p) e (h .answer) (verdict-read p) h
+
+  pub exported-evaluation : (p d : Bytes) (old new : List ℕ) → EvaluationPromise p d old new r → ExportedEvaluation p d old new result
+  exported-evaluation p d old new h =
+      exported answerPacking report-injective (EvaluationPromise p d old new) result r (evaluation p d (length old)) e (h .answer)
+      (evaluation-read p d (length old)) h

@@ -1,0 +1,55 @@
+// The entry points for C and Rust: an answer comes as one number.
+use model::Answer;
+use model::Refusal;
+ghost use mathlib.Core.Path.{_≡_};
+ghost use Rattle.model.specs.Packed.{tagged, pack as packedTag, refusalTag, packed};
+ghost use Rattle.mavisglen.specs.Exported.{ExportedCheck, ExportedEvaluation};
+
+// Checks a plan.
+#[no_mangle]
+pub extern "C" fn mavisglen_check(plan: &[u8]) -> u64
+    ensures { λ r. ⌜ ExportedCheck (now (plan .entry)) r ⌝ }
+{
+    let answer = plan::check(plan);
+    pack_answer(answer)
+}
+
+// Evaluates a plan over a data set into the lent words.
+#[no_mangle]
+pub extern "C" fn mavisglen_evaluate(plan: &[u8], data: &[u8], words: &mut [u64]) -> u64
+    ensures { λ r. ⌜ ExportedEvaluation (now (plan .entry)) (now («data» .entry)) (now (words .entry)) (now (words .exit)) r ⌝ }
+{
+    let answer = evaluate::evaluate(plan, data, words);
+    pack_answer(answer)
+}
+
+// An acceptance: number 0, and the counts in 8 bits each.
+fn pack_answer(answer: Answer) -> u64
+    ensures { λ r. ⌜ r ≡ packed answer ⌝ }
+{
+    match answer {
+        Answer::Accepted {
+            symbols,
+            nodes,
+            steps,
+        } => pack(0, symbols % 256 + (nodes % 256 << 8) + (steps % 256 << 16)),
+        Answer::Refused(refusal) => pack_refusal(refusal),
+    }
+}
+
+// A refusal: its number, and its place.
+fn pack_refusal(refusal: Refusal) -> u64
+    ensures { λ r. ⌜ r ≡ packedTag (refusalTag refusal) ⌝ }
+{
+    pack(
+        answers::refusal_number(refusal),
+        answers::refusal_place(refusal),
+    )
+}
+
+// A number in the low 8 bits, and the value that goes with it above them.
+fn pack(number: usize, value: usize) -> u64
+    ensures { λ r. ⌜ r ≡ packedTag (tagged number value) ⌝ }
+{
+    (number % 256 + (value << 8)) as u64
+}

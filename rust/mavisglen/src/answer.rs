@@ -1,0 +1,288 @@
+//! The answer of a check or an evaluation, and its packing into 64 bits.
+#![forbid(unsafe_code)]
+
+use std::error::Error;
+use std::fmt::{self, Display, Formatter};
+
+/// The enum of refusals, their numbers and places both ways, and their texts, from one table:
+/// `number => Name(place): "text", ..;`, or without `(place)` where the place is 0.
+macro_rules! refusals {
+    ($($(#[$doc:meta])* $number:literal => $name:ident $(($place:ident))?: $text:literal $(, $words:expr)*;)*) => {
+        /// Why a plan, a data set or the lent words are refused; each with its number and the paper's word.
+        /// Displayed, a refusal says its number, its meaning and its place.
+        ///
+        /// Sections are counted from 1, everything else from 0. Symbols are the FORs and accesses in the order
+        /// of the statements.
+        #[derive(Clone, Copy, Debug, PartialEq, Eq, PartialOrd, Ord, Hash)]
+        pub enum Refusal {
+            $($(#[$doc])* $name $((place!($place)))?,)*
+        }
+
+        impl Refusal {
+            /// The numbers that are given, in order.
+            pub const NUMBERS: &'static [u8] = &[$($number),*];
+
+            fn number_and_place(self) -> (u8, u64) {
+                match self {
+                    $(Refusal::$name $(($place))? => ($number, 0 $(+ $place)?),)*
+                }
+            }
+
+            /// The refusal of a number at a place, if the two go together.
+            pub fn from_parts(number: u8, place: u64) -> Option<Refusal> {
+                let refusal = match number {
+                    $($number => Refusal::$name $(({ let $place = place; $place }))?,)*
+                    _ => return None,
+                };
+                (refusal.place() == place).then_some(refusal)
+            }
+        }
+
+        impl Display for Refusal {
+            fn fmt(&self, formatter: &mut Formatter) -> fmt::Result {
+                match *self {
+                    $(Refusal::$name $(($place))? => {
+                        write!(formatter, concat!("refused ", $number, ": ", $text) $(, $words)*)
+                    })*
+                }
+            }
+        }
+    };
+}
+
+/// The type of a place, whatever it is called.
+macro_rules! place {
+    ($place:ident) => {
+        u64
+    };
+}
+
+refusals! {
+    /// 1 Short: the plan ends before this section does; 0 if it is empty.
+    1 => Truncated(section): "truncated plan, {}", early_end_in_words(section);
+    /// 2 Edition: the plan's first byte is not 1.
+    2 => UnknownEdition: "unknown edition, the plan's first byte is not 1";
+    /// 3 Long: bytes follow the plan's last section, from this offset.
+    3 => TrailingBytes(offset): "trailing bytes after {}, from offset {}", section_in_words(7), offset;
+    /// 4 Measure: this section is not whole records, or too many or too few.
+    4 => InvalidLength(section):
+        "invalid length, {} is not whole records, or too many or too few", section_in_words(section);
+    /// 5 Stray: a value out of range, at section × 256 + record.
+    5 => InvalidRecord(place): "invalid record, {}", record_in_words(place / 256, place % 256);
+    /// 6 Mismatch: regions disagree, at section × 256 + record.
+    6 => RegionMismatch(place): "regions disagree, {}", record_in_words(place / 256, place % 256);
+    /// 7 Twin: this node equals an earlier one.
+    7 => DuplicateNode(record): "duplicate node, {} equals an earlier one", record_in_words(5, record);
+    /// 8 Tangled: the loop opened by this statement is not parallelizable.
+    8 => NotParallelizable(record): "loop not parallelizable, its FOR is {}", record_in_words(4, record);
+    /// 9 Uneven: assignments are not one for each of so many symbols.
+    9 => AssignmentCount(symbols):
+        "wrong number of assignments, {} must have one for each symbol, {} in all", section_in_words(6), symbols;
+    /// 10 Unlicensed: this step does not follow by its lemma.
+    10 => UnlicensedStep(step): "unlicensed step, {} does not follow by its lemma", record_in_words(7, step);
+    /// 11 Unmet: no step concludes what this symbol needs.
+    11 => UnmetNeed(symbol): "unmet need, no step concludes what symbol {} needs", symbol;
+    /// 12 Misframed: the data set is empty, or its edition, lengths, pieces or sizes are wrong.
+    12 => InvalidData: "invalid data set, it is empty or its edition, lengths, pieces or sizes are wrong";
+    /// 13 Dangling: a map's entry is out of range, at map × 512 + element.
+    13 => InvalidEntry(place): "invalid entry in the data set, map {}, element {}", place / 512, place % 512;
+    /// 14 Untrue: this supplied partition breaks its flags or has a bit past its last element.
+    14 => InvalidPartition(number):
+        "invalid supplied partition, partition {} breaks its flags or has a bit past its last element", number;
+    /// 15 Narrow: fewer words are lent than this many.
+    15 => OutputTooSmall(words): "too few words are lent, {} are needed", words;
+}
+
+/// The names of a plan's sections, from section 1 on.
+const SECTION_NAMES: [&str; 7] =
+    ["regions", "maps", "supplied partitions", "statements", "nodes", "assignments", "steps"];
+
+/// A section's number and, if it has one, its name.
+fn section_in_words(section: u64) -> String {
+    match (1..).zip(SECTION_NAMES).find(|&(number, _)| number == section) {
+        Some((number, name)) => format!("section {number} ({name})"),
+        None => format!("section {section}"),
+    }
+}
+
+fn record_in_words(section: u64, record: u64) -> String {
+    format!("{}, record {record}", section_in_words(section))
+}
+
+/// Where a truncated plan ends.
+fn early_end_in_words(section: u64) -> String {
+    match section {
+        0 => "it has no bytes".to_string(),
+        _ => format!("it ends before {} does", section_in_words(section)),
+    }
+}
+
+impl Error for Refusal {}
+
+impl Refusal {
+    /// The number the format gives this refusal, 1 to 15.
+    pub fn number(self) -> u8 {
+        self.number_and_place().0
+    }
+
+    /// The place that goes with the number, as the format counts it; 0 if there is none.
+    pub fn place(self) -> u64 {
+        self.number_and_place().1
+    }
+}
+
+/// What a check or an evaluation says.
+#[derive(Clone, Copy, Debug, PartialEq, Eq)]
+pub enum Answer {
+    /// The plan is accepted and, if it was evaluated, the words hold its subregions.
+    Accepted {
+        /// How many FORs and accesses the plan has.
+        symbols: u8,
+        /// How many nodes it has.
+        nodes: u8,
+        /// How many lemma steps it has.
+        steps: u8,
+    },
+    /// Refused, and nothing that was lent is changed.
+    Refused(Refusal),
+}
+
+impl Answer {
+    /// The packed answer: number in the low 8 bits, above them the place or,
+    /// for number 0, the three counts in 8 bits each.
+    pub fn pack(self) -> u64 {
+        match self {
+            Answer::Accepted { symbols, nodes, steps } => {
+                u64::from_le_bytes([0, symbols, nodes, steps, 0, 0, 0, 0])
+            }
+            Answer::Refused(refusal) => refusal.place() << 8 | u64::from(refusal.number()),
+        }
+    }
+
+    /// The answer a packed value stands for; none if it stands for none.
+    pub fn unpack(packed: u64) -> Option<Answer> {
+        match packed.to_le_bytes() {
+            [0, symbols, nodes, steps, 0, 0, 0, 0] => Some(Answer::Accepted { symbols, nodes, steps }),
+            [0, ..] => None,
+            [number, ..] => Refusal::from_parts(number, packed >> 8).map(Answer::Refused),
+        }
+    }
+
+    /// Whether it is an acceptance.
+    pub fn is_accepted(self) -> bool {
+        matches!(self, Answer::Accepted { .. })
+    }
+
+    /// 0 for acceptance, else the refusal's number.
+    pub fn number(self) -> u8 {
+        match self {
+            Answer::Accepted { .. } => 0,
+            Answer::Refused(refusal) => refusal.number(),
+        }
+    }
+}
+
+impl From<Refusal> for Answer {
+    fn from(refusal: Refusal) -> Answer {
+        Answer::Refused(refusal)
+    }
+}
+
+#[cfg(test)]
+mod tests {
+    use super::*;
+
+    #[test]
+    fn every_answer_survives_packing() {
+        let accepted = Answer::Accepted { symbols: 64, nodes: 48, steps: 128 };
+        assert_eq!(accepted.pack(), 64 << 8 | 48 << 16 | 128 << 24);
+        assert_eq!(Answer::unpack(accepted.pack()), Some(accepted));
+        for &number in Refusal::NUMBERS {
+            for place in [0, 1, 7, 2047, 8191] {
+                let Some(refusal) = Refusal::from_parts(number, place) else { continue };
+                let answer = Answer::Refused(refusal);
+                assert_eq!(answer.pack(), place << 8 | u64::from(number));
+                assert_eq!(Answer::unpack(answer.pack()), Some(answer));
+            }
+        }
+    }
+
+    #[test]
+    fn refusals_are_numbered_from_1_without_a_gap() {
+        assert!(Refusal::NUMBERS.iter().copied().eq(1..=Refusal::NUMBERS.len() as u8));
+        assert!(Refusal::NUMBERS.iter().all(|&number| Refusal::from_parts(number, 0).is_some()));
+    }
+
+    #[test]
+    fn values_that_stand_for_nothing_are_not_read() {
+        let beyond = Refusal::NUMBERS.len() as u64 + 1;
+        for packed in [beyond, 254, 255, 2 | 1 << 8, 12 | 1 << 8, 1 << 32, 1 << 63] {
+            assert_eq!(Answer::unpack(packed), None, "{packed:#x}");
+        }
+    }
+
+    #[test]
+    fn every_refusal_has_its_text() {
+        let texts = [
+            (Refusal::Truncated(4), "truncated plan, it ends before section 4 (statements) does"),
+            (Refusal::UnknownEdition, "unknown edition, the plan's first byte is not 1"),
+            (Refusal::TrailingBytes(63), "trailing bytes after section 7 (steps), from offset 63"),
+            (
+                Refusal::InvalidLength(3),
+                "invalid length, section 3 (supplied partitions) is not whole records, or too many or too few",
+            ),
+            (Refusal::InvalidRecord(4 * 256 + 2), "invalid record, section 4 (statements), record 2"),
+            (Refusal::RegionMismatch(6 * 256 + 63), "regions disagree, section 6 (assignments), record 63"),
+            (
+                Refusal::DuplicateNode(47),
+                "duplicate node, section 5 (nodes), record 47 equals an earlier one",
+            ),
+            (
+                Refusal::NotParallelizable(8),
+                "loop not parallelizable, its FOR is section 4 (statements), record 8",
+            ),
+            (
+                Refusal::AssignmentCount(4),
+                "wrong number of assignments, section 6 (assignments) must have one for each symbol, 4 in all",
+            ),
+            (
+                Refusal::UnlicensedStep(127),
+                "unlicensed step, section 7 (steps), record 127 does not follow by its lemma",
+            ),
+            (Refusal::UnmetNeed(1), "unmet need, no step concludes what symbol 1 needs"),
+            (
+                Refusal::InvalidData,
+                "invalid data set, it is empty or its edition, lengths, pieces or sizes are wrong",
+            ),
+            (Refusal::InvalidEntry(15 * 512 + 511), "invalid entry in the data set, map 15, element 511"),
+            (
+                Refusal::InvalidPartition(7),
+                "invalid supplied partition, partition 7 breaks its flags or has a bit past its last element",
+            ),
+            (Refusal::OutputTooSmall(32), "too few words are lent, 32 are needed"),
+        ];
+        assert!(texts.iter().map(|(refusal, _)| refusal.number()).eq(Refusal::NUMBERS.iter().copied()));
+        for (refusal, text) in texts {
+            assert_eq!(refusal.to_string(), format!("refused {}: {text}", refusal.number()));
+        }
+    }
+
+    #[test]
+    fn places_at_the_edges_have_a_text() {
+        assert_eq!(Refusal::Truncated(0).to_string(), "refused 1: truncated plan, it has no bytes");
+        let first = Refusal::InvalidRecord(256).to_string();
+        assert_eq!(first, "refused 5: invalid record, section 1 (regions), record 0");
+        let last = Refusal::InvalidRecord(7 * 256 + 127).to_string();
+        assert_eq!(last, "refused 5: invalid record, section 7 (steps), record 127");
+        // No such section: the library gives no such place, but a caller can make one.
+        let beyond = Refusal::InvalidRecord(8 * 256).to_string();
+        assert_eq!(beyond, "refused 5: invalid record, section 8, record 0");
+        assert!(Refusal::InvalidEntry(512).to_string().ends_with("map 1, element 0"));
+    }
+
+    #[test]
+    fn a_refusal_is_an_error() {
+        let error: Box<dyn Error> = Refusal::OutputTooSmall(8).into();
+        assert_eq!(error.to_string(), "refused 15: too few words are lent, 8 are needed");
+    }
+}

@@ -1,0 +1,154 @@
+//! The verified library beside the plain reference and the optimised
+//! version, in one run, as Markdown tables of times and ratios.
+#![forbid(unsafe_code)]
+
+use std::cell::RefCell;
+use std::hint::black_box;
+use std::time::{Duration, Instant};
+
+use mavisglen::Answer;
+use mavisglen_testing::workload::{filed_example, largest_check, mixed, Mix, Workload};
+use mavisglen_testing::{optimised, reference};
+
+/// Time for one pair of versions on one workload.
+const PAIR_BUDGET: Duration = Duration::from_millis(500);
+/// A batch is repeated calls long enough for the clock.
+const BATCH: Duration = Duration::from_micros(100);
+const MOST_ROUNDS: usize = 1001;
+const LEAST_ROUNDS: usize = 7;
+
+/// One version of the product.
+struct Version {
+    check: fn(&[u8]) -> Answer,
+    evaluate: fn(&[u8], &[u8], &mut [u64]) -> Answer,
+}
+
+const LIBRARY: Version = Version { check: mavisglen::check, evaluate: mavisglen::evaluate };
+const REFERENCE: Version = Version { check: reference::check, evaluate: reference::evaluate };
+const OPTIMISED: Version = Version { check: optimised::check, evaluate: optimised::evaluate };
+
+/// The library beside another version on one workload: of each round, both versions' microseconds for a call.
+struct Rounds(Vec<[f64; 2]>);
+
+impl Rounds {
+    /// The median over the rounds of a value of the library's time and the other's.
+    fn median(&self, value: impl Fn(f64, f64) -> f64) -> f64 {
+        let mut values: Vec<f64> = self.0.iter().map(|&[library, other]| value(library, other)).collect();
+        values.sort_by(f64::total_cmp);
+        values[values.len() / 2]
+    }
+}
+
+fn main() {
+    println!("A round times the library and one other version in turn. Three columns belong together, the");
+    println!("times of both and their ratio, from the same rounds; so the library has two columns of times.");
+    println!("Times are medians of up to {MOST_ROUNDS} rounds; ratios are medians of the rounds' own ratios, so that");
+    println!("a busy machine slows both alike, and may differ a little from the quotient of the times.");
+    println!("Buffers are not cleared: each call overwrites the words that the call before left.\n");
+    table("Checking", &check_workloads(), check_rounds);
+    table("Evaluating (checking included)", &evaluate_workloads(), evaluate_rounds);
+    let nodes = growing(&[6, 12, 24, 48].map(|nodes| (nodes, 8, 256)));
+    table("Checking, by nodes", &nodes, check_rounds);
+    table("Evaluating, by nodes", &nodes, evaluate_rounds);
+    let pieces = growing(&[1, 2, 4, 8, 16].map(|pieces| (24, pieces, 256)));
+    table("Evaluating, by pieces", &pieces, evaluate_rounds);
+    let elements = growing(&[32, 64, 128, 256, 512].map(|elements| (24, 8, elements)));
+    table("Evaluating, by elements", &elements, evaluate_rounds);
+}
+
+/// All operators in turn, for these nodes, pieces and elements.
+fn growing(sizes: &[(usize, usize, usize)]) -> Vec<Workload> {
+    sizes.iter().map(|&(nodes, pieces, elements)| mixed(Mix::AllInTurn, nodes, pieces, elements)).collect()
+}
+
+fn check_workloads() -> Vec<Workload> {
+    vec![
+        filed_example(),
+        mixed(Mix::AllInTurn, 16, 4, 128),
+        mixed(Mix::AllInTurn, 48, 16, 512),
+        largest_check(),
+    ]
+}
+
+fn evaluate_workloads() -> Vec<Workload> {
+    let mut workloads = vec![filed_example(), mixed(Mix::AllInTurn, 16, 4, 128)];
+    workloads.extend(Mix::ALL.iter().map(|&mix| mixed(mix, 48, 16, 512)));
+    workloads
+}
+
+/// Times the library against both other versions on each workload.
+fn table(title: &str, workloads: &[Workload], rounds: fn(&Workload, &Version) -> Rounds) {
+    println!("### {title}\n");
+    println!(
+        "| input | library, µs | optimised, µs | library / optimised \
+         | library, µs | reference, µs | reference / library |"
+    );
+    println!("|---|---:|---:|---:|---:|---:|---:|");
+    for workload in workloads {
+        let (plain, fast) = (rounds(workload, &REFERENCE), rounds(workload, &OPTIMISED));
+        println!(
+            "| {} | {:.3} | {:.3} | {:.2} | {:.3} | {:.2} | {:.1} |",
+            workload.name,
+            fast.median(|library, _| library),
+            fast.median(|_, optimised| optimised),
+            fast.median(|library, optimised| library / optimised),
+            plain.median(|library, _| library),
+            plain.median(|_, reference| reference),
+            plain.median(|library, reference| reference / library)
+        );
+    }
+    println!();
+}
+
+fn check_rounds(workload: &Workload, other: &Version) -> Rounds {
+    let answers = [LIBRARY.check, other.check].map(|check| check(&workload.plan));
+    assert!(answers[0].is_accepted() && answers[0] == answers[1], "{}: {answers:?}", workload.name);
+    measure([LIBRARY.check, other.check].map(|check| move || check(black_box(&workload.plan))))
+}
+
+/// Both versions write the same words, so that neither is favoured by where a buffer lies.
+fn evaluate_rounds(workload: &Workload, other: &Version) -> Rounds {
+    let words = RefCell::new(vec![!0; workload.words]);
+    let mut expected: Option<Vec<u64>> = None;
+    measure([LIBRARY.evaluate, other.evaluate].map(|evaluate| {
+        let call =
+            move |words: &mut [u64]| evaluate(black_box(&workload.plan), black_box(&workload.data), words);
+        let answer = call(&mut words.borrow_mut());
+        assert!(answer.is_accepted(), "{}: {answer:?}", workload.name);
+        let filled = words.replace(vec![!0; workload.words]);
+        assert_eq!(filled, *expected.get_or_insert_with(|| filled.clone()), "{}", workload.name);
+        let words = &words;
+        move || call(black_box(&mut words.borrow_mut()))
+    }))
+}
+
+/// Rounds of both calls, the library's first, until the time is used up.
+fn measure<F: FnMut() -> Answer>(mut calls: [F; 2]) -> Rounds {
+    let batches = calls.each_mut().map(batch_size);
+    let mut rounds: Vec<[f64; 2]> = Vec::new();
+    let start = Instant::now();
+    while rounds.len() < LEAST_ROUNDS || (rounds.len() < MOST_ROUNDS && start.elapsed() < PAIR_BUDGET) {
+        rounds.push(std::array::from_fn(|version| {
+            let batch = batches[version];
+            timed(&mut calls[version], batch).as_secs_f64() * 1e6 / f64::from(batch)
+        }));
+    }
+    Rounds(rounds)
+}
+
+fn timed(call: &mut impl FnMut() -> Answer, batch: u32) -> Duration {
+    let start = Instant::now();
+    for _ in 0..batch {
+        black_box(call());
+    }
+    start.elapsed()
+}
+
+/// Calls that together last about as long as a batch should.
+fn batch_size(call: &mut impl FnMut() -> Answer) -> u32 {
+    let mut batch = 1;
+    while batch < 1 << 20 && timed(call, batch) < BATCH {
+        batch *= 2;
+    }
+    batch
+}

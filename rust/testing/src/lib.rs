@@ -1,0 +1,11 @@
+//! What is needed to test the verified library: an independent reference, a generator of inputs, and an optimised
+//! version to measure against.
+#![forbid(unsafe_code)]
+
+pub mod encode;
+pub mod filed;
+pub mod generate;
+pub mod optimised;
+pub mod random;
+pub mod reference;
+pub mod workload;

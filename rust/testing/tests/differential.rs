@@ -1,0 +1,35 @@
+//! The verified library against the reference. MAVISGLEN_CASES sets the
+//! number of random cases and MAVISGLEN_SEED the run.
+#![forbid(unsafe_code)]
+
+mod common;
+
+use common::Version;
+use mavisglen_testing::reference::promise::test_promise;
+
+const DEFAULT_CASES: u64 = 250_000;
+const LIBRARY: Version = Version { check: mavisglen::check, evaluate: mavisglen::evaluate };
+
+/// Answers and words are the reference's, and every accepted evaluation
+/// keeps the promise, which is tested directly from what loops touch.
+#[test]
+fn random_cases_agree_and_keep_the_promise() {
+    let mut accepted = 0;
+    LIBRARY.agrees_on_random_cases(DEFAULT_CASES, |case, answer, words| {
+        if answer.is_accepted() {
+            accepted += 1;
+            assert_eq!(test_promise(&case.plan, &case.data, words), Ok(()), "{case:?}");
+        }
+    });
+    println!("{accepted} of them accepted, and the promise kept");
+}
+
+#[test]
+fn everything_near_the_filed_examples_agrees() {
+    LIBRARY.agrees_around_the_filed_examples();
+}
+
+#[test]
+fn the_largest_plans_agree() {
+    LIBRARY.agrees_on_the_largest_plans();
+}

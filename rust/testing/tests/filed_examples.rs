@@ -1,0 +1,164 @@
+//! The filed examples, for every version there is.
+#![forbid(unsafe_code)]
+
+use mavisglen::{Answer, Refusal, MOST_WORDS};
+use mavisglen_testing::encode::{flag, limit, node, statement, DataSet, Plan, PIECE_WORDS};
+use mavisglen_testing::filed::{data_d, plan_a, plan_b};
+use mavisglen_testing::{optimised, reference};
+
+type Check = fn(&[u8]) -> Answer;
+type Evaluate = fn(&[u8], &[u8], &mut [u64]) -> Answer;
+
+const VERSIONS: &[(Check, Evaluate)] = &[
+    (reference::check, reference::evaluate),
+    (optimised::check, optimised::evaluate),
+    #[cfg(feature = "library")]
+    (mavisglen::check, mavisglen::evaluate),
+];
+
+fn gives(plan: &[u8], answer: Answer) {
+    for (check, _) in VERSIONS {
+        assert_eq!(check(plan), answer);
+    }
+}
+
+/// The first word of each piece of an accepted plan's node.
+fn first_words(plan: &Plan, data: &DataSet, node: usize) -> Vec<u64> {
+    let pieces = usize::from(data.pieces);
+    let mut found = VERSIONS.iter().map(|(_, evaluate)| {
+        let mut words = vec![!0; plan.nodes.len() * pieces * 8];
+        assert_eq!(evaluate(&plan.encode(), &data.encode(), &mut words).number(), 0);
+        (0..pieces).map(|piece| words[(node * pieces + piece) * 8]).collect()
+    });
+    let first = found.next().expect("there is a version");
+    assert!(found.all(|other| other == first));
+    first
+}
+
+#[test]
+fn plan_a_and_data_d_have_their_filed_bytes() {
+    let plan = "01 0002 02 01 0003 00 01 01 0000 0010 00000000 01000000 04010000 06000100 \
+                0008 01000000 05000000 0004 00 00 01 00 000F 0200000000 0500000000 0501010000";
+    assert_eq!(plan_a().encode(), bytes(plan));
+    let data = "01 0001 02 0004 0005 0003 000A 0000 0000 0002 0001 0002 0000";
+    assert_eq!(data_d().encode(), bytes(data));
+}
+
+fn bytes(hexadecimal: &str) -> Vec<u8> {
+    let digits: Vec<u32> = hexadecimal.chars().filter_map(|digit| digit.to_digit(16)).collect();
+    digits.chunks(2).map(|pair| (pair[0] * 16 + pair[1]) as u8).collect()
+}
+
+#[test]
+fn the_most_words_are_those_of_the_largest_plan() {
+    assert_eq!(MOST_WORDS, limit::NODES * limit::PIECES * PIECE_WORDS);
+}
+
+#[test]
+fn accepted_plans_give_their_counts() {
+    gives(&plan_a().encode(), Answer::Accepted { symbols: 4, nodes: 2, steps: 3 });
+    gives(&plan_b().encode(), Answer::Accepted { symbols: 4, nodes: 3, steps: 4 });
+}
+
+#[test]
+fn refused_plans_give_number_and_place() {
+    gives(&[], Refusal::Truncated(0).into());
+    let mut plan = plan_a();
+    plan.steps.remove(0);
+    gives(&plan.encode(), Refusal::UnmetNeed(0).into());
+    let mut plan = plan_a();
+    plan.statements[2][0] = statement::WRITE;
+    gives(&plan.encode(), Refusal::NotParallelizable(0).into());
+    let mut bytes = plan_a().encode();
+    bytes.push(0);
+    gives(&bytes, Refusal::TrailingBytes(63).into());
+    let mut plan = plan_b();
+    plan.maps[0][2] = 0;
+    gives(&plan.encode(), Refusal::UnlicensedStep(1).into());
+}
+
+#[test]
+fn evaluated_plans_give_their_sets() {
+    assert_eq!(first_words(&plan_a(), &data_d(), 0), [0b00111, 0b11000]);
+    assert_eq!(first_words(&plan_a(), &data_d(), 1), [0b101, 0b110]);
+    assert_eq!(first_words(&plan_b(), &data_d(), 1), [0b01011, 0b10100]);
+}
+
+#[test]
+fn equal_of_few_elements_leaves_pieces_empty() {
+    let small = |size: u16| DataSet {
+        pieces: 3,
+        sizes: vec![size, 1],
+        maps: vec![vec![0; usize::from(size)]],
+        supplied: vec![],
+    };
+    assert_eq!(first_words(&plan_a(), &small(0), 0), [0, 0, 0]);
+    assert_eq!(first_words(&plan_a(), &small(2), 0), [1, 2, 0]);
+    assert_eq!(first_words(&plan_a(), &small(7), 0), [0b111, 0b11000, 0b1100000]);
+}
+
+/// One region with a map into itself and a supplied disjoint partition.
+fn one_region(nodes: Vec<[u8; 4]>, steps: Vec<[u8; 5]>) -> Plan {
+    Plan {
+        regions: vec![[1]],
+        maps: vec![[0, 0, 0]],
+        supplied: vec![[0, flag::DISJOINT]],
+        nodes,
+        steps,
+        ..Plan::default()
+    }
+}
+
+const EQUAL_AND_SUPPLIED: [[u8; 4]; 2] = [[node::EQUAL, 0, 0, 0], [node::SUPPLIED, 0, 0, 0]];
+
+/// Node 2 over the two, both proved disjoint, and a last step about it.
+fn last_step_is_refused(record: [u8; 4], step: [u8; 5]) {
+    let nodes = [&EQUAL_AND_SUPPLIED[..], &[record]].concat();
+    let plan = one_region(nodes, vec![[1, 0, 0, 0, 0], [3, 1, 0, 0, 0], step]);
+    gives(&plan.encode(), Refusal::UnlicensedStep(2).into());
+}
+
+#[test]
+fn a_union_of_disjoint_operands_is_not_disjoint() {
+    for premise in [0, 1] {
+        last_step_is_refused([node::UNION, 0, 1, 0], [16, 2, 0, premise, 0]);
+    }
+}
+
+#[test]
+fn an_image_of_a_disjoint_operand_is_not_disjoint() {
+    last_step_is_refused([node::IMAGE, 0, 0, 0], [18, 2, 0, 0, 0]);
+}
+
+#[test]
+fn a_difference_is_not_disjoint_by_its_right_operand() {
+    last_step_is_refused([node::DIFFERENCE, 0, 1, 0], [17, 2, 0, 1, 0]);
+}
+
+#[test]
+fn a_preimage_under_a_partial_map_is_not_complete() {
+    let nodes = vec![[node::EQUAL, 0, 0, 0], [node::PREIMAGE, 0, 0, 0]];
+    let plan = one_region(nodes, vec![[2, 0, 0, 0, 0], [20, 1, 0, 0, 0]]);
+    gives(&plan.encode(), Refusal::UnlicensedStep(1).into());
+}
+
+#[test]
+fn completeness_is_not_judged_by_sizes() {
+    let plan = Plan { supplied: vec![[0, flag::COMPLETE]], ..one_region(vec![], vec![]) };
+    let overlap = vec![vec![true, true, false], vec![false, true, false]];
+    let data = DataSet { pieces: 2, sizes: vec![3], maps: vec![vec![0, 1, 2]], supplied: vec![overlap] };
+    for (_, evaluate) in VERSIONS {
+        let answer = evaluate(&plan.encode(), &data.encode(), &mut []);
+        assert_eq!(answer, Refusal::InvalidPartition(0).into());
+    }
+}
+
+#[test]
+fn a_copy_of_the_loop_variable_is_centered() {
+    let plan = Plan {
+        statements: vec![[statement::FOR, 0, 0, 0], [statement::COPY, 0, 0, 0], [statement::WRITE, 1, 0, 0]],
+        assignments: vec![[0], [0]],
+        ..one_region(vec![[node::EQUAL, 0, 0, 0]], vec![[2, 0, 0, 0, 0], [5, 0, 0, 0, 0]])
+    };
+    gives(&plan.encode(), Answer::Accepted { symbols: 2, nodes: 1, steps: 2 });
+}

@@ -1,0 +1,25 @@
+//! The optimised version against the reference.
+#![forbid(unsafe_code)]
+
+mod common;
+
+use common::Version;
+use mavisglen_testing::optimised;
+
+const DEFAULT_CASES: u64 = 40_000;
+const OPTIMISED: Version = Version { check: optimised::check, evaluate: optimised::evaluate };
+
+#[test]
+fn random_cases_agree() {
+    OPTIMISED.agrees_on_random_cases(DEFAULT_CASES, |_, _, _| {});
+}
+
+#[test]
+fn everything_near_the_filed_examples_agrees() {
+    OPTIMISED.agrees_around_the_filed_examples();
+}
+
+#[test]
+fn the_largest_plans_agree() {
+    OPTIMISED.agrees_on_the_largest_plans();
+}
