@@ -61,8 +61,8 @@ module _ (p d : Bytes) (old : List ℕ) where
 -- the stages in the paper's order
 in-stages : (p d : Bytes) (lent : ℕ) → evaluationCheck p d lent ≡
     (planCheck p then frameCheck (planOf p) d then contentsCheck (planOf p) (dataOf d) then outputCheck (planOf p) (dataOf d) lent)
-unfolding evaluationCheck
-in-stages p d lent = rw (data-in-parts (planOf p) d, then-assoc)
+unfolding evaluationCheck inputsCheck
+in-stages p d lent = rw (data-in-parts (planOf p) d, then-assoc, then-assoc)
 
 pub plan-placed : {p : Bytes} {reading : Reading} {symbols nodes steps : ℕ} → ReadPromise p reading → reading .answer ≡ Accepted symbols nodes steps → PlanPlaced p (reading .frame)
 plan-placed read told = let known = read .accepted _ _ _ told in record { delimited = known .delimited; limits = known .limits }

@@ -16,7 +16,7 @@ use Rattle.model.specs.Verdict.{recordsCheck, planCheck, verdict}
 use Rattle.model.specs.DataSets.{size, entryStart, entry, low, past, mapsTo, pieceBytes, memberStart, suppliedBit, supplied, entryFits, entriesCheck, suppliedDisjoint, suppliedComplete, padBitsClear, declarationsHold, wellFramed, dataCheck}
 use Rattle.model.specs.Membership.{equal, nodeSetsBy, nodeSets, member}
 use Rattle.model.specs.Words.{bit, holds, fromBits, word, store}
-use Rattle.model.specs.Evaluation.{evaluationCheck, evaluation, nodeWord, filledWords}
+use Rattle.model.specs.Evaluation.{inputsCheck, evaluationCheck, evaluation, nodeWord, filledWords}
 
 unfoldable pub definitions : Unit {0}
 unfolding
@@ -32,5 +32,5 @@ unfolding
     union intersection difference image preimage contiguous equalStart
     size entryStart entry low past mapsTo pieceBytes memberStart suppliedBit supplied equal nodeSetsBy nodeSets member
     entryFits entriesCheck suppliedDisjoint suppliedComplete padBitsClear declarationsHold wellFramed dataCheck
-    evaluationCheck evaluation nodeWord filledWords bit holds fromBits word store
+    inputsCheck evaluationCheck evaluation nodeWord filledWords bit holds fromBits word store
 definitions = tt

@@ -18,7 +18,7 @@ use Rattle.model.specs.Verdict.{planCheck, accepted, verdict}
 use Rattle.model.specs.DataSets.{DataSet, dataOf, pieces, dataCheck}
 use Rattle.model.specs.Membership.{member}
 use Rattle.model.specs.Words.{holds}
-use Rattle.model.specs.Evaluation.{wordsNeeded, evaluationCheck, evaluation, filledWords}
+use Rattle.model.specs.Evaluation.{wordsNeeded, inputsCheck, evaluationCheck, evaluation, filledWords}
 use Rattle.model.specs.Legal.{InSubregion, LegalLoop, Legal}
 use Rattle.model.specs.AcceptedPlans.{Facts}
 use Rattle.model.specs.declared.Answer.the-variants.{Accepted}
@@ -138,11 +138,11 @@ pub record Evaluated (p d : Bytes) (lent symbols nodes steps : ℕ) : Type 0 whe
   pub counts : accepted (planOf p) ≡ Accepted symbols nodes steps
 
 pub evaluated : (p d : Bytes) (lent a b c : ℕ) → evaluation p d lent ≡ Accepted a b c → Evaluated p d lent a b c
-unfolding evaluation evaluationCheck
+unfolding evaluation evaluationCheck inputsCheck
 evaluated p d lent a b c h =
     let (passes, counts) = conclude-accepted _ _ a b c h in
-    let (plan-passes, passes) = then-pass _ _ passes in
-    let (data-passes, enough) = then-pass _ _ passes in
+    let (inputs-pass, enough) = then-pass _ _ passes in
+    let (plan-passes, data-passes) = then-pass _ _ inputs-pass in
     let l = most (require-pass _ _ enough) in
     record { plan-passes = plan-passes; data-passes = data-passes; enough = omega arith; counts = counts }
 
@@ -150,10 +150,10 @@ evaluated p d lent a b c h =
 pub acceptance-given :
     (p d : Bytes) (lent a b c : ℕ) → verdict p ≡ Accepted a b c → dataCheck (planOf p) d ≡ Pass →
     wordsNeeded (planOf p) (dataOf d) ≤ lent → evaluation p d lent ≡ Accepted a b c
-unfolding verdict evaluation evaluationCheck
+unfolding verdict evaluation evaluationCheck inputsCheck
 acceptance-given p d lent a b c h data-passes enough =
     let (plan-passes, counts) = conclude-accepted _ _ a b c h in
-    conclude-pass _ _ (passes-then plan-passes (passes-then data-passes (required _ _ (most! (omega arith))))) ∙ counts
+    conclude-pass _ _ (passes-then (passes-then plan-passes data-passes) (required _ _ (most! (omega arith)))) ∙ counts
 
 -- T5: every accepted plan serves its loops, over every data set that fits it and whatever the words held
 pub demand-3 :

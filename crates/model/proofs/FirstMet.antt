@@ -24,7 +24,7 @@ use Rattle.model.specs.DataSets.{dataOf, size, wellFramed, entriesCheck,
 use Rattle.model.specs.LoopRelations.{HasSymbol, SymbolsBefore, SymbolRegion, NodeRegion}
 use Rattle.model.specs.PlainPlan.{SectionLength, StatementFormed, StatementAgrees, ParallelizableLoop, NodeFormed, NodeAgrees, SameNode, StepFormed, Licence, NeedsConcluded}
 use Rattle.model.specs.PlainData.{WellFramed, EntryFits, DeclarationsHold}
-use Rattle.model.specs.Evaluation.{wordsNeeded, outputCheck, evaluationCheck}
+use Rattle.model.specs.Evaluation.{wordsNeeded, inputsCheck, outputCheck, evaluationCheck}
 use Rattle.model.specs.GivenWhen.{RecordInvalid, RegionsDisagree, PlanGivenWhen, empty, truncated, unknown-edition, trailing-bytes, invalid-length, invalid-record, region-mismatch, duplicate-node, not-parallelizable, assignment-count, unlicensed-step, unmet-need, invalid-data, invalid-entry, invalid-partition, output-too-small, EvaluationGivenWhen, of-plan, of-data, of-output}
 use Rattle.model.specs.RefusalOrder.{Turn, turnAt, turns, turn, Earlier}
 use Rattle.model.specs.declared.Refusal.{Refusal}
@@ -174,7 +174,7 @@ module _ (p d : Bytes) (lent : ℕ) where
 
   -- evaluating is these stages, one after the other
   in-stages : evaluationCheck p d lent ≡ scan outcomeAt 0 18
-  unfolding evaluationCheck planCheck layoutCheck recordsCheck dataCheck scan outcomeAt stages
+  unfolding evaluationCheck inputsCheck planCheck layoutCheck recordsCheck dataCheck scan outcomeAt stages
   in-stages = simp (then-end, then-assoc)
 
   -- the stages come in the order of their numbers
@@ -569,5 +569,5 @@ module _ (p d : Bytes) (lent : ℕ) where
 pub plan-first :
     (p : Bytes) (r : Refusal) → planCheck p ≡ Refuse r →
     (n q : ℕ) → Earlier (turn n q) (turn (refusalReport r .number) (refusalReport r .place)) → PlanGivenWhen p n q → ⊥
-unfolding evaluationCheck _then_
+unfolding evaluationCheck inputsCheck _then_
 plan-first p r h n q e w = evaluation-first p [] 0 r (rw (h, _then_)) n q e (of-plan w)

@@ -5,7 +5,7 @@ use native.Mathlib.Omega.{arith}
 use Rattle.model.specs.Bytes.{Bytes}
 use Rattle.model.specs.Layout.{planOf}
 use Rattle.model.specs.Verdict.{recordsCheck, planCheck}
-use Rattle.model.specs.Evaluation.{evaluationCheck}
+use Rattle.model.specs.Evaluation.{inputsCheck, evaluationCheck}
 use Rattle.model.specs.Answers.{refusalReport}
 use Rattle.model.specs.GivenWhen.{EvaluationGivenWhen, of-plan, of-data, of-output, output-too-small}
 use Rattle.model.specs.declared.Refusal.{Refusal}
@@ -39,10 +39,9 @@ module _ (p : Bytes) (r : Refusal) where
   pub evaluation-refuses :
       (d : Bytes) (lent : ℕ) → evaluationCheck p d lent ≡ Refuse r →
       EvaluationGivenWhen p d lent (refusalReport r .number) (refusalReport r .place)
-  unfolding evaluationCheck
+  unfolding evaluationCheck inputsCheck
   evaluation-refuses d lent h =
-      then-cases _ _ r h (λ e. of-plan (plan-refuses e)) λ plan h.
-      then-cases _ _ r h (λ e. of-data (data-refuses (planOf p) d r e)) λ fits h.
+      then-cases _ _ r h (λ i. then-cases _ _ r i (λ e. of-plan (plan-refuses e)) λ plan e. of-data (data-refuses (planOf p) d r e)) λ inputs h.
       let f = require-refuse _ _ r h in
       let few = beyond (lacks (f .0)) in
       rw (← f .1) (of-output (output-too-small refl refl (omega arith)))

@@ -9,8 +9,8 @@ use Rattle.model.specs.Answers.{report}
 use Rattle.model.specs.Bytes.{Bytes}
 use Rattle.model.specs.Outcomes.{_then_}
 use Rattle.model.specs.Layout.{planOf}
-use Rattle.model.specs.Verdict.{planCheck, verdict}
-use Rattle.model.specs.DataSets.{dataOf, dataCheck}
+use Rattle.model.specs.Verdict.{verdict}
+use Rattle.model.specs.DataSets.{dataOf}
 use Rattle.model.specs.Evaluation.{MOST_WORDS, wordsNeeded, inputsCheck, judgement, outputCheck, evaluationCheck, evaluation, wordsAfter}
 use Rattle.model.specs.Promises.{Accepts, EvaluationPromise, AcceptedInputs, JudgementPromise}
 use Rattle.model.specs.declared.Answer.{Answer}
@@ -18,7 +18,7 @@ use Rattle.model.specs.declared.Answer.the-variants.{Accepted, Refused}
 use Rattle.model.specs.declared.Outcome.{Outcome}
 use Rattle.model.specs.declared.Outcome.the-variants.{Pass, Refuse}
 use Rattle.model.proofs.Tests.{most! }
-use Rattle.model.proofs.Outcomes.{then-pass, then-assoc, passes-then, required, conclude-accepted}
+use Rattle.model.proofs.Outcomes.{then-pass, passes-then, required, conclude-accepted}
 use Rattle.model.proofs.Accepted.{limits, plan-accepted}
 use Rattle.model.proofs.Fitting.{fit}
 use Rattle.model.proofs.DataAgrees.{data-fits}
@@ -33,11 +33,6 @@ module _ (p d : Bytes) where
       let plan = plan-accepted p plan-passes in
       record { facts = plan .records; limits = limits p (plan .layout); fits = data-passes }
 
-  -- the output is asked for last
-  pub output-last : (lent : ℕ) → evaluationCheck p d lent ≡ (inputsCheck p d then outputCheck (planOf p) (dataOf d) lent)
-  unfolding evaluationCheck inputsCheck
-  output-last lent = sym (then-assoc (planCheck p) (dataCheck (planOf p) d) (outputCheck (planOf p) (dataOf d) lent))
-
   -- at most 48 nodes of at most 16 pieces
   pub words-most : AcceptedInputs p d → wordsNeeded (planOf p) (dataOf d) ≤ MOST_WORDS
   words-most inputs =
@@ -51,8 +46,8 @@ module _ (p d : Bytes) where
     output-passes (Refuse r) h = refl
 
     pub judgement-evaluates : judgement p d ≡ evaluation p d lent
-    unfolding judgement evaluation
-    judgement-evaluates = rw (output-last lent, output-passes (inputsCheck p d) refl)
+    unfolding judgement evaluation evaluationCheck
+    judgement-evaluates = rw (output-passes (inputsCheck p d) refl)
 
   module _ (old new : List ℕ) (r : Answer) (enough : MOST_WORDS ≤ length old) (evaluated : EvaluationPromise p d old new r) where
     accepted-inputs : Accepts r → AcceptedInputs p d

@@ -5,7 +5,7 @@ use Prim.Native.Nat.{ℕ, zero, suc, _+_, _*_, _/_, _%_, _^_, _≤_, _<_}
 use mathlib.Core.Path.{_≡_, refl, sym, ap, _∙_}
 use mathlib.Core.Logic.{inl, inr}
 use mathlib.Core.Bool.{Bool}
-use native.Mathlib.Nat.{mul-le-mul, mul-le-mul-right}
+use native.Mathlib.Nat.{mul-le-mul-right}
 use native.Mathlib.Omega.{arith}
 use Rattle.model.specs.Answers.{refusalReport, report}
 use Rattle.model.specs.Bytes.{Bytes, u16, boundary}
@@ -20,7 +20,7 @@ use Rattle.model.specs.AcceptedPlans.{Facts, Limits}
 use Rattle.model.specs.Declarations.{regionCheck, mapCheck, suppliedCheck}
 use Rattle.model.specs.Verdict.{recordsCheck, planCheck, accepted, verdict}
 use Rattle.model.specs.DataSets.{entriesCheck, dataCheck}
-use Rattle.model.specs.Evaluation.{evaluationCheck, evaluation}
+use Rattle.model.specs.Evaluation.{inputsCheck, evaluationCheck, evaluation}
 use Rattle.model.specs.Packed.{TaggedValue, pack, unpack, Packing, packedBy, unpackedBy, refusalTag, answerTag, answerRead, answerPacking, packed, unpacked}
 use Rattle.model.specs.declared.Refusal.{Refusal}
 use Rattle.model.specs.declared.Outcome.{Outcome}
@@ -32,7 +32,7 @@ use Rattle.model.proofs.Outcomes.{then-cases, then-pass, require-pass, 
 use Rattle.model.proofs.Answers.{no-counts, number-in-table, report-injective}
 use Rattle.model.proofs.Accepted.{Section, section-pass, laid-out, limits, plan-accepted}
 use Rattle.model.proofs.DataAgrees.{frame-fits}
-use Rattle.model.proofs.Fitting.{fit}
+use Rattle.model.proofs.JudgementPromise.{inputs-accepted, words-most}
 
 -- an answer whose numbers fit their bits, with room to spare
 pub record Packable (r : Answer) : Type 0 where
@@ -183,14 +183,15 @@ data-near P d L F =
     (λ m lm. near-scan _ _ (λ k lk. near-require _ _ (omega (arith, few (source P m) (F .source-listed m lm)))))) λ entries.
     near-scan _ _ (λ k lt. near-require _ _ (omega arith))
 
+inputs-near : (p d : Bytes) → Near (inputsCheck p d)
+unfolding inputsCheck
+inputs-near p d =
+    near-then _ _ (plan-near p) λ plan. let A = plan-accepted p plan in data-near (planOf p) d (limits p (A .layout)) (A .records)
+
 evaluation-near : (p d : Bytes) (lent : ℕ) → Near (evaluationCheck p d lent)
 unfolding evaluationCheck
 evaluation-near p d lent =
-    near-then _ _ (plan-near p) λ plan.
-    let A = plan-accepted p plan in
-    let L = limits p (A .layout) in
-    near-then _ _ (data-near (planOf p) d L (A .records)) λ fits.
-    near-require _ _ (omega (arith, mul-le-mul (L .few-nodes) (fit (planOf p) d fits .few-pieces)))
+    near-then _ _ (inputs-near p d) λ inputs. near-require _ _ (omega (arith, words-most p d (inputs-accepted p d inputs)))
 
 -- the answer after such checks
 concluded : (P : Plan) (o : Outcome) → Near o → (o ≡ Pass → Limits P) → Packable (conclude o (accepted P))
@@ -219,7 +220,7 @@ verdict-packable p = concluded (planOf p) _ (plan-near p) λ plan. limits p (pla
 pub evaluation-packable : (p d : Bytes) (lent : ℕ) → Packable (evaluation p d lent)
 unfolding evaluation evaluationCheck
 evaluation-packable p d lent =
-    concluded (planOf p) _ (evaluation-near p d lent) λ pass. limits p (plan-accepted p (then-pass _ _ pass .0) .layout)
+    concluded (planOf p) _ (evaluation-near p d lent) λ pass. inputs-accepted p d (then-pass _ _ pass .0) .limits
 
 -- what a caller reads of checking and of evaluating
 pub verdict-read : (p : Bytes) → unpacked (packed (verdict p)) ≡ report (verdict p)

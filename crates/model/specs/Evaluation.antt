@@ -35,7 +35,7 @@ outputCheck P D lent = require (wordsNeeded P D ≤? lent) (OutputTooSmall (word
 
 -- "evaluating takes the bytes of both, checks first, and gives 1 to 15"
 unfoldable pub evaluationCheck : Bytes → Bytes → ℕ → Outcome
-evaluationCheck p d lent = planCheck p then dataCheck (planOf p) d then outputCheck (planOf p) (dataOf d) lent
+evaluationCheck p d lent = inputsCheck p d then outputCheck (planOf p) (dataOf d) lent
 
 -- what evaluating a plan over a data set answers, where so many words are lent
 unfoldable pub evaluation : Bytes → Bytes → ℕ → Answer

@@ -15,7 +15,7 @@ use Rattle.model.specs.Outcomes.{require, _then_, scan, conclude}
 use Rattle.model.specs.Layout.{Plan, planOf, sectionCheck, layoutCheck}
 use Rattle.model.specs.Verdict.{planCheck, accepted}
 use Rattle.model.specs.DataSets.{dataCheck, wellFramed}
-use Rattle.model.specs.Evaluation.{evaluationCheck, evaluation}
+use Rattle.model.specs.Evaluation.{inputsCheck, evaluationCheck, evaluation}
 use Rattle.model.specs.declared.Answer.{Answer}
 use Rattle.model.specs.declared.Answer.the-variants.{Accepted}
 use Rattle.model.specs.declared.Refusal.{Refusal}
@@ -129,26 +129,28 @@ module _ (P : Plan) where
 
 -- the answer of a plan's first k bytes, and of a data set's
 evaluation-plan : (p d : Bytes) (lent k : ℕ) → ((i : ℕ) → byte p i < 256) → 1 + 7 * 65537 < k → evaluation (take k p) d lent ≡ evaluation p d lent
-unfolding evaluation evaluationCheck
+unfolding evaluation evaluationCheck inputsCheck
 evaluation-plan p d lent k bytes room =
     elim (decLe (length p) k) [
       | yes h ↦ rw (take-all k p h)
       | no more ↦
           let long : k < length p = omega arith in
           let refused : planCheck p ≡ Pass → ⊥ = λ h. omega (arith, plan-accepted p h .layout .nothing-after, boundary-most p bytes 7) in
-          conclude-same _ _ _ _ (then-same _ _ _ _ (plan-same p bytes k room long) refused) (λ h. refused (then-pass _ _ h .0))
+          let inputs-refused : inputsCheck p d ≡ Pass → ⊥ = λ h. refused (then-pass _ _ h .0) in
+          conclude-same _ _ _ _ (then-same _ _ _ _ (then-same _ _ _ _ (plan-same p bytes k room long) refused) inputs-refused)
+          (λ h. inputs-refused (then-pass _ _ h .0))
     ]
 
 evaluation-data : (p d : Bytes) (lent k : ℕ) → ((i : ℕ) → byte d i < 256) → 1 + 4 * 65537 < k → evaluation p (take k d) lent ≡ evaluation p d lent
-unfolding evaluation evaluationCheck
+unfolding evaluation evaluationCheck inputsCheck
 evaluation-data p d lent k bytes room =
     elim (decLe (length d) k) [
       | yes h ↦ rw (take-all k d h)
       | no more ↦
           let long : k < length d = omega arith in
           let refused : dataCheck (planOf p) d ≡ Pass → ⊥ = λ h. omega (arith, data-laid-out (planOf p) d h .nothing-after, boundary-most d bytes 4) in
-          ap (λ (o : Outcome). conclude (planCheck p then o) (accepted (planOf p)))
-          (then-same _ _ _ _ (data-same (planOf p) d bytes k room long) refused)
+          let inputs-same = ap (λ (o : Outcome). planCheck p then o) (data-same (planOf p) d bytes k room long) in
+          ap (λ (o : Outcome). conclude o (accepted (planOf p))) (then-same _ _ _ _ inputs-same (λ h. refused (then-pass _ _ h .1)))
     ]
 
 plan-room : 1 + 7 * 65537 < planBytes
@@ -168,10 +170,11 @@ module _ (p d : Bytes) (plan-bytes : (i : ℕ) → byte p i < 256) (data-bytes :
 
   -- and on acceptance they hold the whole files
   pub accepted-whole : (lent s n t : ℕ) → evaluation p d lent ≡ Accepted s n t → (take planBytes p ≡ p) × (take dataBytes d ≡ d)
-  unfolding evaluation evaluationCheck
+  unfolding evaluation evaluationCheck inputsCheck
   accepted-whole lent s n t h =
-      let (plan, rest) = then-pass _ _ (conclude-accepted _ _ s n t h .0) in (
+      let (inputs, enough) = then-pass _ _ (conclude-accepted _ _ s n t h .0) in
+      let (plan, fits) = then-pass _ _ inputs in (
         take-all planBytes p (omega (arith, plan-room, plan-accepted p plan .layout .nothing-after, boundary-most p plan-bytes 7)),
         take-all dataBytes d
-            (omega (arith, data-room, data-laid-out (planOf p) d (then-pass _ _ rest .0) .nothing-after, boundary-most d data-bytes 4)),
+            (omega (arith, data-room, data-laid-out (planOf p) d fits .nothing-after, boundary-most d data-bytes 4)),
       )
