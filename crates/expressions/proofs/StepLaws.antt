@@ -17,7 +17,7 @@ use Rattle.model.specs.declared.Conclusion.the-variants.{Subset, Disjoint, Comp
 use Rattle.model.specs.declared.Lemma.{Lemma}
 use Rattle.model.proofs.Tests.{both, pair, same, same!, less, most, fails, refuted, some-of, among, same-truth}
 use Rattle.primitives.proofs.Scanning.{Scanning}
-use Rattle.expressions.specs.Steps.{subsetKey, disjointKey, completeKey, conclusionKey, StepBytes, StepRead, FormedStep, ConclusionKey, ConclusionKeys, PremisesRead, Concluded}
+use Rattle.expressions.specs.Steps.{subsetKey, disjointKey, completeKey, conclusionKey, StepBytes, StepRead, FormedStep, ConclusionKey, ConclusionKeys, PremisesRead}
 use Rattle.expressions.specs.Licences.{licensedAs, licensedAmong, PremiseKeys}
 use Rattle.expressions.specs.declared.steps.Step.{Step}
 use Rattle.expressions.specs.declared.steps.Premises.{Premises}
@@ -89,16 +89,6 @@ pub next-keys : {P : Plan} {t key : ℕ} {step : Step} {row : Lemma} (table : Li
     → ConclusionKeys P (t + 1) (set table t key)
 next-keys {P} {t} {key} table inside earlier bytes read listed is =
     entry-next 0 (ConclusionKey P) table t key inside earlier (own-conclusion bytes read listed is)
-
-pub concluded : {P : Plan} {n : ℕ} {table : List ℕ} → length table ≡ 128 → ConclusionKeys P n table → Concluded P n table
-concluded room keys =
-    record {
-      room = room;
-      subsets = λ t lt. keys t lt .subset;
-      disjoints = λ t lt. keys t lt .disjoint;
-      completes = λ t lt. keys t lt .complete;
-      small = λ t lt. keys t lt .small;
-    }
 
 -- the checks of a step
 module _ (P : Plan) (t : ℕ) where

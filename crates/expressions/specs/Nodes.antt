@@ -3,7 +3,7 @@ use Prim.Native.Nat.{ℕ, _+_, _*_, _<_}
 use mathlib.Core.Path.{_≡_}
 use mathlib.Core.Bool.{Bool}
 use mathlib.Core.List.{List}
-use lib.ListN.{getD, length}
+use lib.ListN.{getD}
 use Rattle.model.specs.Tests.{Is, _and_, _==_, any}
 use Rattle.model.specs.Bytes.{Bytes}
 use Rattle.model.specs.Outcomes.{scan}
@@ -86,5 +86,4 @@ pub record NodeChecked (P : Plan) (j : ℕ) (r : CheckedNode) : Type 0 where
 pub record NodesChecked (P : Plan) (r : CheckedNodes) : Type 0 where
   pub outcome : r .outcome ≡ scan (nodeCheck P) 0 (nodeCount P)
   pub regions : r .outcome ≡ Pass → (j : ℕ) → j < nodeCount P → getD (r .regions) j 0 ≡ nodeRegion P j
-  pub room : length (r .keys) ≡ 48
   pub keys : r .outcome ≡ Pass → NodeKeys P (r .keys)

@@ -86,16 +86,7 @@ pub record StepTurn (table : List ℕ) (step : Step) (row : Lemma) (t : ℕ) : T
 abbrev pub stepsCheck : Plan → Outcome
 stepsCheck P = scan (stepCheck P) 0 (stepCount P)
 
--- the table says of the first n steps what they conclude
-pub record Concluded (P : Plan) (n : ℕ) (table : List ℕ) : Type 0 where
-  pub room : length table ≡ 128
-  pub subsets : (t : ℕ) → t < n → (x y : ℕ) → x < 256 → y < 256 → (getD table t 0 == subsetKey x y) ≡ concludesSubset P t x y
-  pub disjoints : (t : ℕ) → t < n → (x : ℕ) → x < 256 → (getD table t 0 == disjointKey x) ≡ concludesDisjoint P t x
-  pub completes : (t : ℕ) → t < n → (x : ℕ) → x < 256 → (getD table t 0 == completeKey x) ≡ concludesComplete P t x
-  pub small : (t : ℕ) → t < n → getD table t 0 < 196608
-
 -- the outcome of section 7 and, after a pass, what each step concludes
 pub record StepsRead (P : Plan) (r : Outcome) (table : List ℕ) : Type 0 where
   pub outcome : r ≡ stepsCheck P
-  pub room : length table ≡ 128
-  pub conclusions : r ≡ Pass → Concluded P (stepCount P) table
+  pub conclusions : r ≡ Pass → ConclusionKeys P (stepCount P) table

@@ -204,7 +204,7 @@ fn check_node(
 // Section 5: the first refusal of its nodes in order, or the tables of their regions and keys.
 pub fn check_nodes(regions: &[u8], maps: &[u8], supplied: &[u8], nodes: &[u8]) -> CheckedNodes
     requires { ⌜ length (now nodes) / 4 ≤ 48 ⌝ }
-    ensures { λ r. ⌜ (length (r .keys) ≡ 48) × ((P : Plan) → NodeSources P (now (regions .entry)) (now (maps .entry)) (now (supplied .entry)) (now (nodes .entry)) → NodesChecked P r) ⌝ }
+    ensures { λ r. ⌜ ((P : Plan) → NodeSources P (now (regions .entry)) (now (maps .entry)) (now (supplied .entry)) (now (nodes .entry)) → NodesChecked P r) ⌝ }
 {
     let count = nodes.len() / 4;
     let mut table = [0u8; 48];

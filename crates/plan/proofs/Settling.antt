@@ -24,7 +24,7 @@ use Rattle.model.proofs.Tests.{falsum, one, both, implied, same!, less, less!, 
 use Rattle.model.proofs.Outcomes.{never, required, require-pass, scan-pass, then-assoc}
 use Rattle.primitives.proofs.Searches.{none-of}
 use Rattle.primitives.proofs.Scanning.{Scanning, scanning-start, scanning-next, scanning-refused, scanning-end}
-use Rattle.expressions.specs.Steps.{subsetKey, disjointKey, completeKey, Concluded}
+use Rattle.expressions.specs.Steps.{subsetKey, disjointKey, completeKey, ConclusionKeys}
 use Rattle.primitives.proofs.Filling.{entry-next}
 use Rattle.plan.specs.Needs.{NO-NEED, UNLISTED-BOUND, firstNeed, secondNeed, NeedsListed, concludingStep, settled, NeedsSettled, NeedsChecked, needsCheck}
 use Rattle.plan.specs.declared.needs.SettledNeeds.{SettledNeeds}
@@ -117,7 +117,7 @@ no-loop k access = go (opensLoop k) refl
     go true e = falsum (sym (opens-only k e) ∙ access)
     go false e = e
 
-module _ (P : Plan) {conclusions : List ℕ} (known : Concluded P (stepCount P) conclusions) where
+module _ (P : Plan) (conclusions : List ℕ) (known : ConclusionKeys P (stepCount P) conclusions) where
   -- the step that concludes a need, and whether a need is met by what the steps conclude
   concluding : (need : ℕ) {f : ℕ → Bool} → ((t : ℕ) → t < stepCount P → (getD conclusions t 0 == need) ≡ f t)
       → concludingStep conclusions (stepCount P) need ≡ first f 0 (stepCount P)
@@ -141,18 +141,18 @@ module _ (P : Plan) {conclusions : List ℕ} (known : Concluded P (stepCount P) 
       rw (
         first-passes,
         none-of (stepCount P) (λ t. getD conclusions t 0 == UNLISTED-BOUND)
-            (λ t lt. ne-eqb (getD conclusions t 0) UNLISTED-BOUND (λ e. omega (arith, known .small t lt))),
+            (λ t lt. ne-eqb (getD conclusions t 0) UNLISTED-BOUND (λ e. omega (arith, known t lt .small))),
       )
 
   module _ (x : ℕ) (small : x < 256) where
     complete-met : isMet (completeKey x) ≡ any (stepCount P) (λ t. concludesComplete P t x)
-    complete-met = asked _ (omega arith) (λ t lt. known .completes t lt x small)
+    complete-met = asked _ (omega arith) (λ t lt. known t lt .complete x small)
 
     disjoint-met : isMet (disjointKey x) ≡ any (stepCount P) (λ t. concludesDisjoint P t x)
-    disjoint-met = asked _ (omega arith) (λ t lt. known .disjoints t lt x small)
+    disjoint-met = asked _ (omega arith) (λ t lt. known t lt .disjoint x small)
 
     subset-met : (y : ℕ) → y < 256 → isMet (subsetKey x y) ≡ any (stepCount P) (λ t. concludesSubset P t x y)
-    subset-met y small-y = asked _ (omega arith) (λ t lt. known .subsets t lt x y small small-y)
+    subset-met y small-y = asked _ (omega arith) (λ t lt. known t lt .subset x y small small-y)
 
   -- the two needs of a statement are met where the definition's are
   module _ (few : nodeCount P ≤ 48) (s : ℕ) (small : symbolNode P s < 256) where
@@ -217,7 +217,7 @@ module _ (P : Plan) {conclusions : List ℕ} (known : Concluded P (stepCount P) 
         complete-step own =
             let small = listed .small-nodes s inside in
             step-of (s * 2) (omega arith) (listed .first-are s inside ∙ rw own) (omega arith)
-            (λ t lt. known .completes t lt (symbolNode P s) small)
+            (λ t lt. known t lt .complete (symbolNode P s) small)
 
         disjoint-step : Is (opens P s) → Is (reducesThroughPointer P s)
             → getD (r .steps) (s * 2 + 1) 0 ≡ first (λ t. concludesDisjoint P t (symbolNode P s)) 0 (stepCount P)
@@ -225,7 +225,7 @@ module _ (P : Plan) {conclusions : List ℕ} (known : Concluded P (stepCount P) 
         disjoint-step own reduces =
             let small = listed .small-nodes s inside in
             step-of (s * 2 + 1) (omega arith) (listed .second-are s inside ∙ rw (own, reduces)) (omega arith)
-            (λ t lt. known .disjoints t lt (symbolNode P s) small)
+            (λ t lt. known t lt .disjoint (symbolNode P s) small)
 
         subset-step : Is (accesses P s)
             → getD (r .steps) (s * 2) 0 ≡ first (λ t. concludesSubset P t (operandBound P s) (symbolNode P s)) 0 (stepCount P)
@@ -234,7 +234,7 @@ module _ (P : Plan) {conclusions : List ℕ} (known : Concluded P (stepCount P) 
             let small = listed .small-nodes s inside in
             let bound = bound-listed access in
             step-of (s * 2) (omega arith) (listed .first-are s inside ∙ rw (no-loop _ access, access, less! bound)) (omega arith)
-            (λ t lt. known .subsets t lt (operandBound P s) (symbolNode P s) (omega arith) small)
+            (λ t lt. known t lt .subset (operandBound P s) (symbolNode P s) (omega arith) small)
 
       pub needs-checked : NeedsChecked P r
       needs-checked =

@@ -50,5 +50,5 @@ module _ {P : Plan} {statements : CheckedStatements} (section4 : StatementsCheck
         operands-are = tables .operands-are;
         centers-are = tables .centers-are;
         keys-are = section5 .keys passed5;
-        concluded = section7 .conclusions passed7;
+        conclusions-are = section7 .conclusions passed7;
       }

@@ -19,7 +19,7 @@ use Rattle.model.specs.declared.Refusal.the-variants.{UnmetNeed}
 use Rattle.loops.specs.Tables.{Table}
 use Rattle.loops.specs.Parallel.{PointersKnown}
 use Rattle.expressions.specs.Nodes.{NodeKeys}
-use Rattle.expressions.specs.Steps.{subsetKey, disjointKey, completeKey, Concluded}
+use Rattle.expressions.specs.Steps.{subsetKey, disjointKey, completeKey, ConclusionKeys}
 use Rattle.plan.specs.declared.needs.SettledNeeds.{SettledNeeds}
 
 -- a plan of so many nodes, and the table of their keys
@@ -107,7 +107,7 @@ pub record NeedTables (P : Plan) (operands : List ℕ) (centers : List Bool) (ke
   pub operands-are : Table 0 (statementCount P) operands (operandDefinition P)
   pub centers-are : Table false (statementCount P) centers (centered P)
   pub keys-are : NodeKeys P keys
-  pub concluded : Concluded P (stepCount P) conclusions
+  pub conclusions-are : ConclusionKeys P (stepCount P) conclusions
 
 -- the first steps that conclude the needs: of statement s at 2s COMP of its node or SUB of its bound, at 2s + 1 DISJ of its node
 pub record ConcludingSteps (P : Plan) (steps : List ℕ) : Type 0 where

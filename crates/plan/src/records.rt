@@ -61,7 +61,7 @@ fn check_statements(plan: &[u8], frame: Frame) -> CheckedStatements
 // Section 5.
 fn check_nodes(plan: &[u8], frame: Frame) -> CheckedNodes
     requires { ⌜ Laid (now plan) frame ⌝ }
-    ensures { λ r. ⌜ (length (r .keys) ≡ 48) × NodesChecked (planOf (now (plan .entry))) r ⌝ }
+    ensures { λ r. ⌜ NodesChecked (planOf (now (plan .entry))) r ⌝ }
 {
     let regions = plan_section(plan, frame, REGIONS);
     let maps = plan_section(plan, frame, MAPS);

@@ -35,18 +35,15 @@ returns : tie.Need-returns Inv-loop μ-loop
 returns c =
     let m = c .before .before .before in
     let test = m .before .before .before in
-    let l = test .before .loop in (
-      l .inv .0 .keys-room,
-      λ P is.
-          let passed = l .inv .1 P is in
-          let inside : l .j < nodeCount P = rw (is .nodes-are) (rw (l .inv .0 .counted) at (test .loop-test .taken)) in
-          record {
-            outcome = scanning-refused (passed .scanning) inside (m .check-node .ensures .1 P is (passed .earlier) .outcome) (c .before .outcome .given .1);
-            regions = λ h. never h;
-            room = l .inv .0 .keys-room;
-            keys = λ h. never h;
-          },
-    )
+    let l = test .before .loop in
+    λ P is.
+    let passed = l .inv .1 P is in
+    let inside : l .j < nodeCount P = rw (is .nodes-are) (rw (l .inv .0 .counted) at (test .loop-test .taken)) in
+    record {
+      outcome = scanning-refused (passed .scanning) inside (m .check-node .ensures .1 P is (passed .earlier) .outcome) (c .before .outcome .given .1);
+      regions = λ h. never h;
+      keys = λ h. never h;
+    }
 
 loop-again : tie.Need-loop-again Inv-loop μ-loop
 loop-again c =
@@ -68,18 +65,15 @@ loop-again c =
 returns-2 : tie.Need-returns-2 Inv-loop μ-loop
 returns-2 c =
     let l = c .before .loop in
-    let counted = l .inv .0 .counted in (
-      l .inv .0 .keys-room,
-      λ P is.
-          let passed = l .inv .1 P is in
-          let end : nodeCount P ≤ l .j = rw (is .nodes-are) (rw counted at (c .loop-test .left)) in
-          record {
-            outcome = scanning-end (passed .scanning) end;
-            regions = λ h j lt. passed .earlier .regions .region j (omega arith);
-            room = l .inv .0 .keys-room;
-            keys = λ h j lt. passed .earlier .keys j (omega arith);
-          },
-    )
+    let counted = l .inv .0 .counted in
+    λ P is.
+    let passed = l .inv .1 P is in
+    let end : nodeCount P ≤ l .j = rw (is .nodes-are) (rw counted at (c .loop-test .left)) in
+    record {
+      outcome = scanning-end (passed .scanning) end;
+      regions = λ h j lt. passed .earlier .regions .region j (omega arith);
+      keys = λ h j lt. passed .earlier .keys j (omega arith);
+    }
 
 pub check-nodes-spec : {M : Type 1} → statement M
 check-nodes-spec =

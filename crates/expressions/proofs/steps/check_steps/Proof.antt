@@ -7,7 +7,7 @@ use Rattle.model.specs.Layout.{Plan, stepCount}
 use Rattle.model.proofs.Outcomes.{never}
 use Rattle.primitives.proofs.Scanning.{scanning-start, scanning-next, scanning-refused, scanning-end}
 use Rattle.expressions.specs.Steps.{StepSources}
-use Rattle.expressions.proofs.StepLaws.{StepTable, StepsPassed, next-keys, concluded}
+use Rattle.expressions.proofs.StepLaws.{StepTable, StepsPassed, next-keys}
 use Rattle.expressions.proofs.steps.check_steps.Statement.{statement}
 use Rattle.expressions.proofs.steps.check_steps.Tie as tie
 
@@ -44,7 +44,6 @@ returns c =
           let keys = next-keys (l .conclusions) (omega arith) (passed .earlier) bytes read (key .before .lemma-row .ensures) (key .conclusion-key .ensures) in
           record {
             outcome = scanning-refused (passed .scanning) inside (m .check-step .ensures P is read keys) (c .before .refusal .given .1);
-            room = search needs;
             conclusions = λ h. never h;
           },
     )
@@ -78,8 +77,7 @@ returns-2 c =
           let end : stepCount P ≤ l .t = rw (is .steps-are) (rw counted at (c .loop-test .left)) in
           record {
             outcome = scanning-end (passed .scanning) end;
-            room = l .inv .0 .room;
-            conclusions = λ h. concluded (l .inv .0 .room) (λ k lt. passed .earlier k (omega arith));
+            conclusions = λ h k lt. passed .earlier k (omega arith);
           },
     )
 

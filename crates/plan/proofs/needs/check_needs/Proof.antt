@@ -39,7 +39,7 @@ returns c =
     let start = statements .before .before .before .before in
     let P = planOf (now (start .args .plan)) in
     let statements-are = sym (statements .plan-section .ensures) in
-    λ tables. needs-checked P (tables .concluded) (start .pre .limits .few-nodes)
+    λ tables. needs-checked P (now (start .args .conclusions)) (tables .conclusions-are) (start .pre .limits .few-nodes)
     (listed .list-needs .ensures .1 P (record {
       bounds = record {
         statements-are = statements-are;

@@ -6,15 +6,13 @@ use Rattle.plan.proofs.records.check_nodes.Tie as tie
 
 returns : tie.Need-returns
 returns c =
-    let bodies = c .before in (
-      c .check-nodes .ensures .0,
-      c .check-nodes .ensures .1 _ (record {
-        regions-are = sym (bodies .before .before .before .plan-section .ensures);
-        maps-are = sym (bodies .before .before .plan-section2 .ensures);
-        supplied-are = sym (bodies .before .plan-section3 .ensures);
-        nodes-are = sym (bodies .plan-section4 .ensures);
-      }),
-    )
+    let bodies = c .before in
+    c .check-nodes .ensures _ (record {
+      regions-are = sym (bodies .before .before .before .plan-section .ensures);
+      maps-are = sym (bodies .before .before .plan-section2 .ensures);
+      supplied-are = sym (bodies .before .plan-section3 .ensures);
+      nodes-are = sym (bodies .plan-section4 .ensures);
+    })
 
 pub check-nodes-spec : {M : Type 1} → statement M
 check-nodes-spec =

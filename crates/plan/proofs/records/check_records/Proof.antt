@@ -36,7 +36,7 @@ abbrev plan-past5 : tie.After-enum-told3 → Plan
 plan-past5 m = plan-past4 (m .before .before .before)
 
 passed5 : (m : tie.After-enum-told3) → (let P = plan-past5 m in recordsCheck P ≡ (assignmentsCheck P then stepsCheck P then needsCheck P))
-passed5 m = stage-passed _ (passed4 (m .before .before .before)) (m .before .before .check-nodes .ensures .1 .outcome) (m .enum-told3 .given .1)
+passed5 m = stage-passed _ (passed4 (m .before .before .before)) (m .before .before .check-nodes .ensures .outcome) (m .enum-told3 .given .1)
 
 -- section 6, with the tables of sections 4 and 5
 abbrev nodes-before : tie.After-check-assignments → tie.After-enum-told3
@@ -50,7 +50,7 @@ assigned m =
     let nodes = nodes-before m in
     let statements = nodes .before .before .before in
     m .check-assignments .ensures (assignment-tables (statements .before .before .check-statements .ensures) (statements .enum-told2 .given .1)
-    (nodes .before .before .check-nodes .ensures .1) (nodes .enum-told3 .given .1))
+    (nodes .before .before .check-nodes .ensures) (nodes .enum-told3 .given .1))
 
 abbrev plan-past6 : tie.After-enum-told4 → Plan
 plan-past6 m = plan-at6 (m .before .before)
@@ -86,7 +86,7 @@ returns-3 : tie.Need-returns-3
 returns-3 c =
     let checked = c .before .before .before .before in
     records-refused (c .refuse-records3 .ensures)
-    (stage-refused _ (passed4 (checked .before)) (checked .check-nodes .ensures .1 .outcome) (c .before .before .nodes-outcome .given .1))
+    (stage-refused _ (passed4 (checked .before)) (checked .check-nodes .ensures .outcome) (c .before .before .nodes-outcome .given .1))
 
 returns-4 : tie.Need-returns-4
 returns-4 c =
@@ -110,7 +110,7 @@ returns-6 c =
     let steps = c .before .before .before .before .before .before .before in
     let nodes = nodes-before (steps .before .before .before .before .before .before) in
     let statements = nodes .before .before .before in
-    let node-tables = nodes .before .before .check-nodes .ensures .1 in
+    let node-tables = nodes .before .before .check-nodes .ensures in
     let tables =
     need-tables (statements .before .before .check-statements .ensures) (statements .enum-told2 .given .1) node-tables (nodes .enum-told3 .given .1)
     (steps .before .before .check-steps .ensures .1) (steps .enum-told5 .given .1) in
