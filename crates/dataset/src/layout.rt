@@ -7,7 +7,11 @@ use primitives::bytes::byte_at;
 use primitives::outcomes::require;
 use primitives::records::map_source;
 use primitives::records::supplied_region;
+use primitives::sections::ENTRIES;
 use primitives::sections::Frame;
+use primitives::sections::MEMBERS;
+use primitives::sections::PIECE_COUNT;
+use primitives::sections::SIZES;
 use primitives::sections::read_frame;
 use primitives::sections::section_body;
 ghost use mathlib.Core.Path.{_≡_};
@@ -101,10 +105,10 @@ fn are_lengths_right(
     requires { ⌜ Delimits DATA-SECTIONS (now «data») frame ⌝ }
     ensures { λ r. ⌜ r ≡ lengthsRight (length (now (regions .entry))) (dataOf (now («data» .entry))) «entries_end» «members_end» ⌝ }
 {
-    let piece_count = section_body(data, frame, 0);
-    let sizes = section_body(data, frame, 1);
-    let entries = section_body(data, frame, 2);
-    let members = section_body(data, frame, 3);
+    let piece_count = section_body(data, frame, PIECE_COUNT);
+    let sizes = section_body(data, frame, SIZES);
+    let entries = section_body(data, frame, ENTRIES);
+    let members = section_body(data, frame, MEMBERS);
     let pieces = byte_at(piece_count, 0);
     (piece_count.len() == 1)
         & ((1 <= pieces)
@@ -134,7 +138,7 @@ fn read_laid_out(
     requires { ⌜ SectionsInside (now maps) (now supplied) (now «data») frame ⌝ }
     ensures { λ r. ⌜ ((P : Plan) → DeclarationSources P (now (regions .entry)) (now (maps .entry)) (now (supplied .entry)) → SectionsPlaced P (now («data» .entry)) frame r) ⌝ }
 {
-    let sizes = section_body(data, frame, 1);
+    let sizes = section_body(data, frame, SIZES);
     let entries_at = place_entries(maps, sizes);
     let members_at = place_members(supplied, piece_count(data), sizes);
     let entry_starts = entries_at.starts;

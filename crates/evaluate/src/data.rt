@@ -4,7 +4,14 @@ use dataset::layout::DataLayout;
 use dataset::layout::read_layout;
 use dataset::supplied::check_supplied;
 use model::Outcome;
+use primitives::sections::ENTRIES;
 use primitives::sections::Frame;
+use primitives::sections::MAPS;
+use primitives::sections::MEMBERS;
+use primitives::sections::PIECE_COUNT;
+use primitives::sections::REGIONS;
+use primitives::sections::SIZES;
+use primitives::sections::SUPPLIED;
 use primitives::sections::section_body;
 ghost use mathlib.Core.Path.{_≡_};
 ghost use Rattle.model.specs.Layout.{planOf};
@@ -17,9 +24,9 @@ pub fn read_data_layout(plan: &[u8], plan_frame: Frame, data: &[u8]) -> DataLayo
     requires { ⌜ PlanPlaced (now plan) «plan_frame» ⌝ }
     ensures { λ r. ⌜ LayoutRead (planOf (now (plan .entry))) (now («data» .entry)) r ⌝ }
 {
-    let regions = section_body(plan, plan_frame, 0);
-    let maps = section_body(plan, plan_frame, 1);
-    let supplied = section_body(plan, plan_frame, 2);
+    let regions = section_body(plan, plan_frame, REGIONS);
+    let maps = section_body(plan, plan_frame, MAPS);
+    let supplied = section_body(plan, plan_frame, SUPPLIED);
     read_layout(regions, maps, supplied, data)
 }
 
@@ -28,13 +35,13 @@ pub fn check_contents(plan: &[u8], plan_frame: Frame, data: &[u8], layout: DataL
     requires { ⌜ ContentsReady (now plan) «plan_frame» (now «data») layout ⌝ }
     ensures { λ r. ⌜ r ≡ contentsCheck (planOf (now (plan .entry))) (dataOf (now («data» .entry))) ⌝ }
 {
-    let maps = section_body(plan, plan_frame, 1);
-    let supplied = section_body(plan, plan_frame, 2);
+    let maps = section_body(plan, plan_frame, MAPS);
+    let supplied = section_body(plan, plan_frame, SUPPLIED);
     let frame = layout.frame;
-    let piece_count = section_body(data, frame, 0);
-    let sizes = section_body(data, frame, 1);
-    let entries = section_body(data, frame, 2);
-    let members = section_body(data, frame, 3);
+    let piece_count = section_body(data, frame, PIECE_COUNT);
+    let sizes = section_body(data, frame, SIZES);
+    let entries = section_body(data, frame, ENTRIES);
+    let members = section_body(data, frame, MEMBERS);
     let entry_starts = layout.entry_starts;
     let member_starts = layout.member_starts;
     match check_entries(maps, sizes, entries, &entry_starts) {

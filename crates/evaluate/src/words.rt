@@ -2,6 +2,10 @@
 use dataset::cells::piece_count;
 use dataset::layout::DataLayout;
 use plan::Reading;
+use primitives::sections::ENTRIES;
+use primitives::sections::MEMBERS;
+use primitives::sections::NODES;
+use primitives::sections::SIZES;
 use primitives::sections::section_body;
 use subregions::fill::fill_all;
 ghost use mathlib.Core.Path.{_≡_};
@@ -16,12 +20,12 @@ pub fn fill_words(plan: &[u8], reading: Reading, data: &[u8], layout: DataLayout
     requires { ⌜ WordsReady (now plan) reading (now «data») layout (length (now words)) ⌝ }
     ensures { λ _. ⌜ now (words .exit) ≡ filledWords (planOf (now (plan .entry))) (dataOf (now («data» .entry))) (now (words .entry)) ⌝ }
 {
-    let nodes = section_body(plan, reading.frame, 4);
+    let nodes = section_body(plan, reading.frame, NODES);
     let node_regions = reading.node_regions;
     let frame = layout.frame;
-    let sizes = section_body(data, frame, 1);
-    let entries = section_body(data, frame, 2);
-    let members = section_body(data, frame, 3);
+    let sizes = section_body(data, frame, SIZES);
+    let entries = section_body(data, frame, ENTRIES);
+    let members = section_body(data, frame, MEMBERS);
     let entry_starts = layout.entry_starts;
     let member_starts = layout.member_starts;
     fill_all(

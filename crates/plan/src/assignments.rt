@@ -1,9 +1,6 @@
 // Symbols, and section 6: a node for each, of its region.
-use crate::sections::ASSIGNMENTS;
 use crate::sections::NODE_BYTES;
-use crate::sections::NODES;
 use crate::sections::STATEMENT_BYTES;
-use crate::sections::STATEMENTS;
 use crate::sections::plan_section;
 use loops::kinds::access_of;
 use loops::kinds::is_access;
@@ -14,7 +11,10 @@ use model::Refusal;
 use primitives::bytes::byte_at;
 use primitives::outcomes::and_then;
 use primitives::outcomes::require;
+use primitives::sections::ASSIGNMENTS;
 use primitives::sections::Frame;
+use primitives::sections::NODES;
+use primitives::sections::STATEMENTS;
 ghost use mathlib.Core.Path.{_≡_};
 ghost use Prim.Native.Nat.{_+_, _/_, _<_, _≤_};
 ghost use lib.ListN.{length};

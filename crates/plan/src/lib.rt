@@ -1,16 +1,16 @@
 // Reads and checks partition plans.
 use crate::records::check_records;
-use crate::sections::ASSIGNMENTS;
 use crate::sections::NODE_BYTES;
-use crate::sections::NODES;
 use crate::sections::STEP_BYTES;
-use crate::sections::STEPS;
 use crate::sections::plan_section;
 use layout::frame::read_frame;
 use model::Answer;
 use model::Outcome;
 use primitives::outcomes::conclude;
+use primitives::sections::ASSIGNMENTS;
 use primitives::sections::Frame;
+use primitives::sections::NODES;
+use primitives::sections::STEPS;
 ghost use Rattle.layout.specs.Frames.{Laid};
 ghost use Rattle.model.specs.Promises.{CheckPromise};
 ghost use Rattle.plan.specs.Reading.{ReadPromise};

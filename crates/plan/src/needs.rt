@@ -1,12 +1,8 @@
 // Needs: what the loops ask the steps to conclude, and the search for the steps that do.
 use crate::assignments::next_symbol;
-use crate::sections::ASSIGNMENTS;
 use crate::sections::NODE_BYTES;
-use crate::sections::NODES;
 use crate::sections::STATEMENT_BYTES;
-use crate::sections::STATEMENTS;
 use crate::sections::STEP_BYTES;
-use crate::sections::STEPS;
 use crate::sections::plan_section;
 use expressions::nodes::IMAGE;
 use expressions::nodes::node_key;
@@ -23,7 +19,11 @@ use model::Outcome;
 use model::Refusal;
 use model::StatementKind;
 use primitives::bytes::byte_at;
+use primitives::sections::ASSIGNMENTS;
 use primitives::sections::Frame;
+use primitives::sections::NODES;
+use primitives::sections::STATEMENTS;
+use primitives::sections::STEPS;
 ghost use mathlib.Core.Path.{_≡_};
 ghost use Prim.Native.Nat.{_≤_, _<_};
 ghost use lib.ListN.{length};

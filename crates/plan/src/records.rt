@@ -1,12 +1,6 @@
 // The records of a plan's sections, stage by stage in the paper's order: the first refusal met is given.
 use crate::assignments::check_assignments;
 use crate::needs::check_needs;
-use crate::sections::MAPS;
-use crate::sections::NODES;
-use crate::sections::REGIONS;
-use crate::sections::STATEMENTS;
-use crate::sections::STEPS;
-use crate::sections::SUPPLIED;
 use crate::sections::plan_section;
 use expressions::nodes::CheckedNodes;
 use layout::maps::check_maps;
@@ -18,6 +12,12 @@ use model::Outcome;
 use model::Refusal;
 use primitives::outcomes::and_then;
 use primitives::sections::Frame;
+use primitives::sections::MAPS;
+use primitives::sections::NODES;
+use primitives::sections::REGIONS;
+use primitives::sections::STATEMENTS;
+use primitives::sections::STEPS;
+use primitives::sections::SUPPLIED;
 ghost use mathlib.Core.Path.{_≡_};
 ghost use lib.ListN.{length};
 ghost use Rattle.model.specs.Layout.{planOf};

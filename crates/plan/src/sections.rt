@@ -1,24 +1,10 @@
-// The sections of a plan whose layout passes, by what they hold, and the bytes of their records.
+// The sections of a plan whose layout passes, and the bytes of their records.
 use primitives::sections::Frame;
 use primitives::sections::section_body;
 ghost use mathlib.Core.Path.{_≡_};
 ghost use Prim.Native.Nat.{_<_};
 ghost use Rattle.model.specs.Bytes.{body};
 ghost use Rattle.layout.specs.Frames.{Laid};
-
-pub const REGIONS: usize = 0;
-
-pub const MAPS: usize = 1;
-
-pub const SUPPLIED: usize = 2;
-
-pub const STATEMENTS: usize = 3;
-
-pub const NODES: usize = 4;
-
-pub const ASSIGNMENTS: usize = 5;
-
-pub const STEPS: usize = 6;
 
 // Bytes of a statement, of a node and of a step.
 pub const STATEMENT_BYTES: usize = 4;

@@ -7,6 +7,30 @@ ghost use lib.ListN.{getD};
 ghost use Rattle.model.specs.Bytes.{body};
 ghost use Rattle.primitives.specs.Sections.{frameOf, Delimits};
 
+// The sections of a plan, by what they hold: how many others each comes after.
+pub const REGIONS: usize = 0;
+
+pub const MAPS: usize = 1;
+
+pub const SUPPLIED: usize = 2;
+
+pub const STATEMENTS: usize = 3;
+
+pub const NODES: usize = 4;
+
+pub const ASSIGNMENTS: usize = 5;
+
+pub const STEPS: usize = 6;
+
+// The sections of a data set.
+pub const PIECE_COUNT: usize = 0;
+
+pub const SIZES: usize = 1;
+
+pub const ENTRIES: usize = 2;
+
+pub const MEMBERS: usize = 3;
+
 // The place after so many sections, for none to 8 of them; 0 for more than were read.
 pub struct Frame {
     pub boundaries: [usize; 9],
