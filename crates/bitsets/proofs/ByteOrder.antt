@@ -15,7 +15,7 @@ use Rattle.model.specs.Words.{bit, digit, fromBits}
 use Rattle.model.proofs.Tests.{both, either, same, less, fails, every-at, pick-true, pick-false}
 use Rattle.model.proofs.Words.{is-number, bit-number, number-same}
 use Rattle.bitsets.specs.Elements.{twoBytes, bytesBits, exchanged, exchangedBits, LowerPlaces, reversedBits}
-use Rattle.bitsets.proofs.Bits.{kept, false-or, and-false, and-true, or-false, bit-and, bit-or, bit-down, bit-up, bit-up-low, bit-low, bit-lower, bit-upper}
+use Rattle.primitives.proofs.Bits.{kept, false-or, and-false, and-true, or-false, bit-and, bit-or, bit-down, bit-up, bit-up-low, bit-low, bit-lower, bit-upper}
 use Rattle.primitives.proofs.Shifts.{shifted-or}
 
 -- n bytes as a number, the first lowest

@@ -13,10 +13,10 @@ use native.Mathlib.Nat.{zero-add}
 use Rattle.model.specs.Tests.{_and_, _or_, non, _==_}
 use Rattle.model.specs.Words.{bit, holds, fromBits, word}
 use Rattle.bitsets.specs.declared.words.SetOperator.the-variants.{Union, Intersection, Difference}
-use Rattle.model.proofs.Tests.{both, pair, lacks, refuted, same, same!, less, less!, most, most! }
+use Rattle.model.proofs.Tests.{both, pair, lacks, refuted, same, same!, less, less!, most, most!, same-truth}
 use Rattle.model.proofs.Words.{bit-zero, is-number, is-word, word-less, bit-word}
 use Rattle.bitsets.specs.Elements.{upTo, between, combination, combinedBits, PieceOf, wordAt}
-use Rattle.bitsets.proofs.Bits.{agree, refute, or-false, bit-and, bit-or, bit-not, bit-power, bit-ones, one-shifted}
+use Rattle.primitives.proofs.Bits.{refute, or-false, bit-and, bit-or, bit-not, bit-power, bit-ones, one-shifted}
 
 -- the elements below a number: none of a word, all of it, or the lowest of it
 pub below-none : (count w : ℕ) → count ≤ 64 * w → 0 ≡ word (upTo count) w
@@ -34,7 +34,7 @@ unfolding upTo
 below-some count w low high =
     ap (λ (x : ℕ). x - 1) (one-shifted (count - 64 * w) (omega arith))
     ∙ is-word (2 ^ (count - 64 * w) - 1) (upTo count) w (omega (arith, pow-lt {i = count - 64 * w} {j = 64} (omega arith)))
-    (λ b l. bit-ones (count - 64 * w) b ∙ agree (λ t. let q = less t in less! (omega arith)) (λ t. let q = less t in less! (omega arith)))
+    (λ b l. bit-ones (count - 64 * w) b ∙ same-truth (λ t. let q = less t in less! (omega arith)) (λ t. let q = less t in less! (omega arith)))
 
 pub some-below : (count w : ℕ) → count < 64 * w + 64 → 1 ≤ (1 * 2 ^ (count - 64 * w)) % 2 ^ 64
 some-below count w high = subst (λ (x : ℕ). 1 ≤ x) (sym (one-shifted (count - 64 * w) (omega arith))) (pow-pos (count - 64 * w))
@@ -48,7 +48,7 @@ between-word low high w x y p q =
     ∙ is-word _ (between low high) w (and-lt 64 _ _ (word-less (upTo high) w) (omega arith))
     (λ b l. bit-and _ _ b
     ∙ ap₂ _and_ (bit-word (upTo high) w b l) (bit-not 64 _ b (word-less (upTo low) w) l ∙ ap non (bit-word (upTo low) w b l))
-    ∙ agree
+    ∙ same-truth
     (λ t. pair (most! (let n : (w * 64 + b < low → ⊥) = λ h. lacks (both t .1) (less! h) in omega arith)) (both t .0))
     (λ t. pair (both t .1) (refuted (λ h. let m = most (both t .0) in let k = less h in omega arith))))
 
@@ -86,7 +86,7 @@ added words n x room = rw (one-shifted (n % 64) (omega arith), zero-add (x / 64)
         → bit (getD (set words (n / 64) (bitOr (getD words (n / 64) 0) (2 ^ (n % 64)))) (x / 64) 0) (x % 64) ≡ (bit (getD words (x / 64) 0) (x % 64) or x == n)
     go (yes q) =
         rw (q, getD-set-same words (n / 64) (bitOr (getD words (n / 64) 0) (2 ^ (n % 64))) 0 room, bit-or (getD words (n / 64) 0) (2 ^ (n % 64)) (x % 64), bit-power (n % 64) (x % 64))
-        (ap (λ (t : Bool). bit (getD words (n / 64) 0) (x % 64) or t) (agree (λ t. let r = same t in same! (omega arith)) (λ t. let r = same t in same! (omega arith))))
+        (ap (λ (t : Bool). bit (getD words (n / 64) 0) (x % 64) or t) (same-truth (λ t. let r = same t in same! (omega arith)) (λ t. let r = same t in same! (omega arith))))
     go (no d) =
         rw (getD-set-other words (n / 64) (x / 64) (bitOr (getD words (n / 64) 0) (2 ^ (n % 64))) 0 d)
         (sym (ap (λ (t : Bool). bit (getD words (x / 64) 0) (x % 64) or t) (refute (λ t. let r = same t in d (omega arith))) ∙ or-false _))

@@ -11,12 +11,12 @@ use Rattle.model.specs.Words.{bit, word}
 use Rattle.model.specs.Layout.{Plan, suppliedRegion, suppliedFlags}
 use Rattle.model.specs.DataSets.{DataSet, pieces, size, pieceBytes, memberStart, suppliedBit, supplied, declarationsHold}
 use Rattle.model.specs.PlainData.{DeclarationsHold}
-use Rattle.model.proofs.Tests.{both, pair, implied, implies, same, same!, less, less!, most, most!, which, which!, some-of, among, every-at, every-of}
+use Rattle.model.proofs.Tests.{both, pair, implied, implies, same, same!, less, less!, most, most!, which, which!, some-of, among, every-at, every-of, same-truth}
 use Rattle.model.proofs.Words.{bit-zero, bit-number, bit-word, bits-decide, number-less, word-less}
 use Rattle.model.proofs.DataAgrees.{supplied-right}
 use Rattle.bitsets.specs.Elements.{upTo, between, bytesBits, reversedBits}
 use Rattle.dataset.specs.Columns.{united, repeated, pieceWord, columnOf, columnAt, columnsKeepFlags}
-use Rattle.bitsets.proofs.Bits.{agree, refute, bit-and, bit-or}
+use Rattle.primitives.proofs.Bits.{refute, bit-and, bit-or}
 
 -- a piece's bytes lie within those of all pieces
 pub piece-inside : (piece pieces width : ℕ) → piece < pieces → piece * width + width ≤ pieces * width
@@ -108,7 +108,7 @@ module _ (P : Plan) (D : DataSet) (k : ℕ) where
     unfolding upTo
     column-complete c declared =
         bits-decide 64 _ _ (and-lt 64 _ _ (number-less 64 _) (word-less _ c)) (word-less _ c) (λ b lb.
-        agree (λ h. both (sym (bit-and (seen c) _ b) ∙ h) .1) (λ h.
+        same-truth (λ h. both (sym (bit-and (seen c) _ b) ∙ h) .1) (λ h.
         let w = right .complete (which declared) (c * 64 + b) (less (sym (bit-word (upTo elements) c b lb) ∙ h)) in
         bit-and _ _ b ∙ pair (bit-seen c b lb ∙ among (w .0, w .1, bit-of-supplied (w .0) (c * 64 + b) (w .2))) h))
 
@@ -178,4 +178,4 @@ module _ (P : Plan) (D : DataSet) (k : ℕ) where
 
   -- the test by columns is the test by elements
   pub by-columns : declarationsHold P D k ≡ columnsKeepFlags (D .members) (memberStart P D k) elements (pieces D) disjoint complete
-  by-columns = agree (λ h. columns-kept (supplied-right P D k .0 h)) (λ h. supplied-right P D k .1 (flags-kept h))
+  by-columns = same-truth (λ h. columns-kept (supplied-right P D k .0 h)) (λ h. supplied-right P D k .1 (flags-kept h))

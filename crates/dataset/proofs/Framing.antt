@@ -12,12 +12,11 @@ use Rattle.model.specs.Layout.{Plan, mapCount, suppliedCount}
 use Rattle.model.specs.DataSets.{DataSet, dataOf, pieces, size, entryStart, memberStart, wellFramed}
 use Rattle.model.specs.declared.Outcome.the-variants.{Pass, Refuse}
 use Rattle.model.specs.declared.Refusal.the-variants.{InvalidData}
-use Rattle.model.proofs.Tests.{both, pair, same, every-of, every-at, most, most! }
+use Rattle.model.proofs.Tests.{both, pair, same, every-of, every-at, most, most!, same-truth}
 use Rattle.model.proofs.Outcomes.{never, require-pass}
 use Rattle.primitives.specs.declared.sections.Frame.{Frame}
 use Rattle.primitives.specs.Sections.{frameOf, Delimits}
 use Rattle.primitives.proofs.Bodies.{boundary-next, frame-at}
-use Rattle.bitsets.proofs.Bits.{agree}
 use Rattle.dataset.specs.Layout.{DATA-SECTIONS, laidOut, lengthsRight, sectionsRight, SectionsPlaced, DataPlaced, LayoutRead}
 use Rattle.dataset.specs.declared.layout.DataLayout.{DataLayout}
 
@@ -48,7 +47,7 @@ module _ (d : Bytes) (e : length d ≡ boundary d DATA-SECTIONS) where
 pub framed-is : (P : Plan) (d : Bytes) → wellFramed P d ≡ laidOut d and sectionsRight P (dataOf d)
 unfolding wellFramed laidOut lengthsRight sectionsRight
 framed-is P d =
-    agree (λ h. let t = both (both (both h .1) .1) .1 in pair (pair (both (both h .1) .0) (both t .0)) (both t .1))
+    same-truth (λ h. let t = both (both (both h .1) .1) .1 in pair (pair (both (both h .1) .0) (both t .0)) (both t .1))
     (λ h. let o = both (both h .0) in
     let e = same (o .1) in
     let ends = every-of DATA-SECTIONS _ (λ n lt. let s = section-ends d e n lt in pair (most! (s .0)) (most! (s .1))) in

@@ -3,14 +3,13 @@ use Prim.Native.Nat.{ℕ, zero, suc, _+_, _≤_, _<_}
 use mathlib.Core.Path.{_≡_, refl, sym, _∙_}
 use mathlib.Core.Logic.{_⊎_, inl, inr}
 use mathlib.Core.Bool.{Bool, true, false, not}
-use native.Mathlib.Numerals.{add-one}
 use native.Mathlib.Omega.{arith}
 use lib.Dec.{ltb}
-use borrow.Author.Tests.{ltb-true, ltb-false, not-true, not-false}
-use Rattle.model.specs.Tests.{Is, any, every, pick}
+use borrow.Author.Tests.{ltb-true, ltb-false}
+use Rattle.model.specs.Tests.{Is, any, pick}
 use Rattle.model.specs.Layout.{Plan, statementCount}
 use Rattle.model.specs.Statements.{opens, loop, loopBefore}
-use Rattle.model.proofs.Tests.{falsum, fails, pair, refuted, pick-true, pick-false, among, every-at, every-of}
+use Rattle.model.proofs.Tests.{falsum, fails, refuted, pick-true, pick-false, among}
 use Rattle.primitives.proofs.Searches.{none-of}
 use Rattle.loops.specs.Parallel.{LoopSpan}
 
@@ -24,7 +23,7 @@ side s t = go (ltb s t) refl
 
 module _ (P : Plan) where
   -- a loop opens at a statement or before it
-  loop-most : (s : ℕ) → loop P s ≤ s
+  pub loop-most : (s : ℕ) → loop P s ≤ s
   unfolding loopBefore pick
   loop-most zero = go (opens P 0)
     where
@@ -90,23 +89,13 @@ module _ (P : Plan) where
     pub span-to-end : statementCount P ≤ t → LoopSpan P f t
     span-to-end le = record { bound = bound; own = own; only = λ s inside e. (omega (arith, loop-most s), omega arith) }
 
--- a pass over the statements of the loop of FOR f decides of all statements, where those of other loops are as the pass wants them
+-- a search among the statements of the loop of FOR f decides of all statements, where it finds none of other loops
 module _ (P : Plan) (f : ℕ) (test : ℕ → Bool) where
   earlier-loop : (s : ℕ) → s < f → loop P s ≡ f → ⊥
   earlier-loop s lt e = absurd (omega (arith, loop-most P s))
 
   later-loop : {end : ℕ} → LoopSpan P f end → (s : ℕ) → s < statementCount P → end ≤ s → loop P s ≡ f → ⊥
   later-loop span s lt le e = absurd (omega (arith, span .only s lt e .1))
-
-  module _ (others : (s : ℕ) → (loop P s ≡ f → ⊥) → Is (test s)) where
-    pub every-start : Is (every f test)
-    every-start = every-of f test (λ s lt. others s (earlier-loop s lt))
-
-    pub every-end : {end s : ℕ} → LoopSpan P f end → end ≤ s → Is (every s test) → true ≡ every (statementCount P) test
-    every-end {s = t} span le h = sym (every-of (statementCount P) test at)
-      where
-        at : (s : ℕ) → s < statementCount P → Is (test s)
-        at s lt = elim (side s t) [ inl l ↦ every-at t test h s l | inr g ↦ others s (later-loop span s lt (omega arith)) ]
 
   module _ (others : (s : ℕ) → (loop P s ≡ f → ⊥) → test s ≡ false) where
     pub none-start : any f test ≡ false
@@ -122,19 +111,7 @@ module _ (P : Plan) (f : ℕ) (test : ℕ → Bool) where
               | inr g ↦ others s (later-loop span s lt (omega arith))
             ]
 
--- statement s of the loop, by the outcome of its test
-module _ (test : ℕ → Bool) {s : ℕ} {outcome : Bool} (is : outcome ≡ test s) where
-  pub every-next : Is (every s test) → not outcome ≡ false → Is (every (s + 1) test)
-  unfolding every
-  every-next h passed = rw (add-one s) (pair h (sym is ∙ not-false _ passed))
-
-  module _ {P : Plan} {f end : ℕ} (span : LoopSpan P f end) (inside : s < end) where
-    pub every-fails : not outcome ≡ true → false ≡ every (statementCount P) test
-    every-fails failed = go (every (statementCount P) test) refl
-      where
-        go : (b : Bool) → every (statementCount P) test ≡ b → false ≡ b
-        go false h = refl
-        go true h = falsum (sym (sym is ∙ not-true _ failed) ∙ every-at _ test h s (omega (arith, span .bound)))
-
-    pub some-found : outcome ≡ true → true ≡ any (statementCount P) test
-    some-found found = sym (among {f = test} (s, omega (arith, span .bound), sym is ∙ found))
+-- statement s of the loop passes
+pub some-found : (test : ℕ → Bool) {P : Plan} {f end s : ℕ} {outcome : Bool} → outcome ≡ test s → LoopSpan P f end → s < end → outcome ≡ true
+    → true ≡ any (statementCount P) test
+some-found test {s = s} is span inside found = sym (among {f = test} (s, omega (arith, span .bound), sym is ∙ found))

@@ -1,8 +1,9 @@
 -- The plans that section 4's reader speaks of, and what it answers of them.
+use Prim.Native.Nat.{ℕ, _≤_, _<_}
 use mathlib.Core.Path.{_≡_}
 use Rattle.model.specs.Bytes.{Bytes}
 use Rattle.model.specs.Outcomes.{_then_, scan}
-use Rattle.model.specs.Layout.{Plan, statementCount}
+use Rattle.model.specs.Layout.{Plan, regionCount, fields, statementCount}
 use Rattle.model.specs.Statements.{statementCheck}
 use Rattle.model.specs.Parallel.{loopCheck}
 use Rattle.model.specs.declared.Outcome.{Outcome}
@@ -11,11 +12,13 @@ use Rattle.loops.specs.declared.section.CheckedStatements.{CheckedStatem
 use Rattle.loops.specs.Tables.{StatementTables}
 
 module _ (P : Plan) where
-  -- a plan of these regions, maps and statements
+  -- a plan of these regions, maps and statements, with at most 16 regions of at most 8 fields
   pub record StatementSources (regions maps statements : Bytes) : Type 0 where
     pub regions-are : P .regions ≡ regions
     pub maps-are : P .maps ≡ maps
     pub statements-are : P .statements ≡ statements
+    pub few-regions : regionCount P ≤ 16
+    pub few-fields : (r : ℕ) → r < regionCount P → fields P r ≤ 8
 
   abbrev pub statementsCheck : Outcome
   statementsCheck = scan (statementCheck P) 0 (statementCount P)

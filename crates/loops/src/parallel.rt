@@ -1,7 +1,7 @@
-// Which loops can run in parallel, by pairs of their accesses.
+// Which loops can run in parallel, by the classes of accesses that each region and field has in a loop.
 use crate::kinds::access_of;
+use crate::kinds::field_of;
 use crate::kinds::is_access;
-use crate::kinds::is_read;
 use crate::kinds::is_reduce;
 use crate::kinds::is_write;
 use crate::kinds::opens_loop;
@@ -13,19 +13,20 @@ use primitives::bytes::byte_at;
 use primitives::lookup::flag_at;
 use primitives::outcomes::require;
 ghost use mathlib.Core.Path.{_≡_};
-ghost use Prim.Native.Nat.{ℕ, _/_, _<_, _≤_};
+ghost use Prim.Native.Nat.{_/_, _^_, _<_, _≤_};
 ghost use lib.ListN.{length};
 ghost use Rattle.model.specs.Tests.{Is};
 ghost use Rattle.model.specs.Outcomes.{scan};
 ghost use Rattle.model.specs.Layout.{Plan, statementCount};
 ghost use Rattle.model.specs.Statements.{opens, loop};
-ghost use Rattle.model.specs.Parallel.{conflicts, parallelizable, loopCheck, reducesThroughPointer};
-ghost use Rattle.loops.specs.Parallel.{Within, accessAt, LoopsKnown, LoopSpan, conflictFreeWith, conflictFree, leavesParallelizable, PointersKnown, pointerReduction};
+ghost use Rattle.model.specs.Parallel.{parallelizable, loopCheck, reducesThroughPointer};
+ghost use Rattle.loops.specs.Parallel.{Within, accessAt, LoopsKnown, LoopSpan, targetNumber, class, compatible, entered, admitted, PointersKnown, pointerReduction};
 
-// What a statement accesses: how, which region, through a centered variable or not, and with which operator.
+// What a statement accesses: how, which region and field, through a centered variable or not, and with which operator.
 pub struct LoopAccess {
     pub access: Access,
     pub region: usize,
+    pub field: usize,
     pub centered: bool,
     pub operator: usize,
 }
@@ -48,28 +49,76 @@ fn loop_access(
     ensures { λ r. ⌜ ((P : Plan) → LoopsKnown P (now (statements .entry)) (now (operands .entry)) (now («variable_regions» .entry)) (now (centered .entry)) → s < statementCount P → r ≡ accessAt P s) ⌝ }
 {
     let operand = byte_at(operands, s);
-    let access = access_of(kind_at(statements, s));
+    let kind = kind_at(statements, s);
+    let access = access_of(kind);
     let region = byte_at(variable_regions, operand);
     let through_centered = flag_at(centered, operand);
-    let operator = byte_at(statements, s * 4 + 3);
+    let b = byte_at(statements, s * 4 + 2);
+    let c = byte_at(statements, s * 4 + 3);
+    let field = field_of(kind, b, c);
     LoopAccess {
         access,
         region,
+        field,
         centered: through_centered,
-        operator,
+        operator: c,
     }
 }
 
-// Whether access a conflicts with access b of the same loop.
-fn conflict(a: LoopAccess, b: LoopAccess) -> bool
-    ensures { λ r. ⌜ ((P : Plan) (s t : ℕ) → a ≡ accessAt P s → b ≡ accessAt P t → r ≡ conflicts P s t) ⌝ }
+// The number of an access's region and field, of 16 regions with 8 fields each. Numbers of a plan are below those, and
+// the remainders change none; they keep the table's bound for every byte.
+fn target_number(a: LoopAccess) -> usize
+    ensures { λ r. ⌜ (r ≡ targetNumber a) × (r < 128) ⌝ }
 {
-    let first = a.access;
-    let second = b.access;
-    let same_reduction = is_reduce(second) & (!b.centered & (a.operator == b.operator));
-    let by_reduction = is_reduce(first) & (!a.centered & !same_reduction);
-    let by_read = is_read(first) & (!a.centered & (is_write(second) | is_reduce(second)));
-    (a.region == b.region) & (by_reduction | by_read)
+    a.region % 16 * 8 + a.field % 8
+}
+
+// The class of an access, as one bit of a byte. From the lowest: a centered read, another read, a write, a centered
+// reduction, another reduction by each of the operators.
+fn class_bit(a: LoopAccess) -> u8
+    ensures { λ r. ⌜ r ≡ 2 ^ class a ⌝ }
+{
+    let access = a.access;
+    match access {
+        Access::Nothing => 1,
+        Access::Reads => if a.centered { 1 } else { 2 },
+        Access::Writes => 4,
+        Access::Reduces => if a.centered {
+            8
+        } else {
+            16 << (a.operator % 4)
+        },
+    }
+}
+
+// Reads and reductions through pointers.
+const THROUGH_POINTERS: u8 = 0xF2;
+
+// Writes and reductions.
+const CHANGES: u8 = 0xFC;
+
+// Whether accesses of these classes can share a region and field: nothing goes through a pointer, nothing is changed, or
+// all are reductions through pointers by one operator.
+fn is_compatible(classes: u8) -> bool
+    ensures { λ r. ⌜ r ≡ compatible classes ⌝ }
+{
+    let one_operator = (classes == 16) | (classes == 32) | (classes == 64) | (classes == 128);
+    (classes & THROUGH_POINTERS == 0) | (classes & CHANGES == 0) | one_operator
+}
+
+// Enters an access among those of its region and field; whether the loop can be parallelizable with it.
+fn enter_access(seen: &mut [u8; 128], a: LoopAccess) -> bool
+    requires { ⌜ length (now seen) ≡ 128 ⌝ }
+    ensures { λ r. ⌜ (now (seen .exit) ≡ entered a (now (seen .entry))) × (r ≡ admitted a (now (seen .exit))) ⌝ }
+{
+    let access = a.access;
+    if !is_access(access) {
+        return true;
+    }
+    let target = target_number(a);
+    let classes = seen[target] | class_bit(a);
+    seen[target] = classes;
+    is_compatible(classes) & (!is_write(access) | a.centered)
 }
 
 // Where the loop that statement f opens ends: at the next statement that opens a loop, or past the last.
@@ -87,71 +136,7 @@ fn loop_end(statements: &[u8], f: usize) -> usize
     t
 }
 
-// Whether access a does not conflict with statement t of its loop, which may access nothing.
-fn is_conflict_free_with(
-    statements: &[u8],
-    operands: &[u8],
-    variable_regions: &[u8],
-    centered: &[bool],
-    a: LoopAccess,
-    t: usize,
-) -> bool
-    requires { ⌜ t < 64 ⌝ }
-    ensures { λ r. ⌜ ((P : Plan) (s : ℕ) → LoopsKnown P (now (statements .entry)) (now (operands .entry)) (now («variable_regions» .entry)) (now (centered .entry)) → t < statementCount P → a ≡ accessAt P s → r ≡ conflictFreeWith P (loop P t) s t) ⌝ }
-{
-    let b = loop_access(statements, operands, variable_regions, centered, t);
-    let access = b.access;
-    !is_access(access) | !conflict(a, b)
-}
-
-// Whether access a conflicts with no access of its loop.
-fn is_conflict_free(
-    statements: &[u8],
-    operands: &[u8],
-    variable_regions: &[u8],
-    centered: &[bool],
-    range: LoopRange,
-    a: LoopAccess,
-) -> bool
-    requires { ⌜ range .end ≤ 64 ⌝ }
-    ensures { λ r. ⌜ ((P : Plan) (s : ℕ) → LoopsKnown P (now (statements .entry)) (now (operands .entry)) (now («variable_regions» .entry)) (now (centered .entry)) → LoopSpan P (range .first) (range .end) → a ≡ accessAt P s → r ≡ conflictFree P (range .first) s) ⌝ }
-{
-    let end = range.end;
-    let mut t = range.first;
-    while t < end {
-        if !is_conflict_free_with(statements, operands, variable_regions, centered, a, t) {
-            return false;
-        }
-        t += 1;
-    }
-    true
-}
-
-// Whether statement s leaves its loop parallelizable. Only through a variable that is not centered can an access fail to:
-// a write always does, a read or reduction if it conflicts with another access.
-fn leaves_parallelizable(
-    statements: &[u8],
-    operands: &[u8],
-    variable_regions: &[u8],
-    centered: &[bool],
-    range: LoopRange,
-    s: usize,
-) -> bool
-    requires { ⌜ (range .first ≤ s) × (s < range .end) × (range .end ≤ 64) ⌝ }
-    ensures { λ r. ⌜ ((P : Plan) → LoopsKnown P (now (statements .entry)) (now (operands .entry)) (now («variable_regions» .entry)) (now (centered .entry)) → LoopSpan P (range .first) (range .end) → r ≡ leavesParallelizable P (range .first) s) ⌝ }
-{
-    let a = loop_access(statements, operands, variable_regions, centered, s);
-    let access = a.access;
-    if !is_access(access) | a.centered {
-        return true;
-    }
-    if is_write(access) {
-        return false;
-    }
-    is_conflict_free(statements, operands, variable_regions, centered, range, a)
-}
-
-// Whether a loop is parallelizable.
+// Whether a loop is parallelizable, in one pass.
 fn is_parallelizable(
     statements: &[u8],
     operands: &[u8],
@@ -163,9 +148,12 @@ fn is_parallelizable(
     ensures { λ r. ⌜ ((P : Plan) → LoopsKnown P (now (statements .entry)) (now (operands .entry)) (now («variable_regions» .entry)) (now (centered .entry)) → LoopSpan P (range .first) (range .end) → r ≡ parallelizable P (range .first)) ⌝ }
 {
     let end = range.end;
+    // The classes of the accesses so far, by region and field.
+    let mut seen = [0u8; 128];
     let mut s = range.first;
     while s < end {
-        if !leaves_parallelizable(statements, operands, variable_regions, centered, range, s) {
+        let a = loop_access(statements, operands, variable_regions, centered, s);
+        if !enter_access(&mut seen, a) {
             return false;
         }
         s += 1;

@@ -6,7 +6,7 @@ use Rattle.model.specs.Bytes.{boundary, body}
 use Rattle.model.specs.Recursion.{below, levels, course}
 use Rattle.model.specs.Partitions.{union, intersection, difference, image, preimage, contiguous, equalStart}
 use Rattle.model.specs.Layout.{shapes, shapeOf, sectionCheck, layoutCheck}
-use Rattle.model.specs.Statements.{kindOf, opensLoop, definesVariable, accessOf, isAccess, kind, opens, defines, accesses, loopBefore, variables, definition, operandBy, operand, operandDefinition, regionBy, variableRegion, centeredBy, centered, statementFormedBy, statementFormed, statementAgreesBy, statementAgrees, statementCheck}
+use Rattle.model.specs.Statements.{kindOf, opensLoop, definesVariable, accessOf, isAccess, kind, opens, defines, accesses, loopBefore, variables, definition, operandBy, operand, operandDefinition, fieldBy, accessField, regionBy, variableRegion, centeredBy, centered, statementFormedBy, statementFormed, statementAgreesBy, statementAgrees, statementCheck}
 use Rattle.model.specs.Parallel.{isRead, isWrite, isReduce, reads, writes, reduces, uncentered, accessOfLoop, sameTarget, conflicts, parallelizable, loopCheck, reducesThroughPointer}
 use Rattle.model.specs.Nodes.{nodeKindOf, nodeKindAt, nodeFormedBy, nodeFormed, nodeRegionBy, nodeRegionStep, nodeRegion, nodeAgreesBy, nodeAgrees, sameNode, duplicateNode, nodeCheck}
 use Rattle.model.specs.Lemmas.{lemmas, lemmaRow, inUse, isSubset, isDisjoint, isComplete, concludesSubset, concludesDisjoint, concludesComplete, operandOf, licences, licence, stepFormed, stepLicensed, stepCheck}
@@ -23,7 +23,7 @@ unfolding
     report verdict planCheck layoutCheck sectionCheck shapeOf shapes boundary body conclude require _then_ scan
     recordsCheck regionCheck mapCheck suppliedCheck statementCheck loopCheck nodeCheck assignmentCountCheck assignmentCheck stepCheck needCheck
     _and_ _or_ non _==_ _<?_ _≤?_ any every pick first below levels course
-    kindOf opensLoop definesVariable accessOf isAccess kind opens defines accesses loopBefore variables definition operandBy operand
+    kindOf opensLoop definesVariable accessOf isAccess kind opens defines accesses loopBefore variables definition operandBy operand fieldBy accessField
     operandDefinition regionBy variableRegion centeredBy centered statementFormedBy statementFormed statementAgreesBy statementAgrees
     isRead isWrite isReduce reads writes reduces uncentered accessOfLoop sameTarget conflicts parallelizable reducesThroughPointer
     nodeKindOf nodeKindAt nodeFormedBy nodeFormed nodeRegionBy nodeRegionStep nodeRegion nodeAgreesBy nodeAgrees sameNode duplicateNode

@@ -37,6 +37,8 @@ pub mod FirstMet
 pub mod EvaluationPromise
 pub mod JudgementPromise
 pub mod Demand2
+pub mod FormerRule
+pub mod LoopExamples
 pub mod Packed
 pub mod Lists
 pub mod FrameEncoding

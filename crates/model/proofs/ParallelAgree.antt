@@ -6,12 +6,12 @@ use mathlib.Core.Logic.{_⊎_, inl, inr, _↔_}
 use native.Mathlib.Omega.{arith}
 use Rattle.model.specs.Tests.{Is, _and_, _or_, non, _==_, every}
 use Rattle.model.specs.Layout.{Plan, statementCount, statementKind, statementC}
-use Rattle.model.specs.Statements.{accesses, operandDefinition, operandRegion, centered}
+use Rattle.model.specs.Statements.{accesses, operandDefinition, operandRegion, accessField, centered}
 use Rattle.model.specs.Parallel.{reads, writes, reduces, uncentered, accessOfLoop, sameTarget, conflicts, parallelizable, reducesThroughPointer}
-use Rattle.model.specs.LoopRelations.{InLoop, Resolves, VariableRegion, Centered, AccessThrough, by-load, directly, ReducesThroughPointer}
+use Rattle.model.specs.LoopRelations.{InLoop, Resolves, VariableRegion, Centered, AccessThrough, by-load, directly, AccessField, AccessTarget, ReducesThroughPointer}
 use Rattle.model.specs.PlainPlan.{ParallelizableLoop}
 use Rattle.model.proofs.Tests.{both, pair, either, one, lacks, refuted, split, implied, implies, same, same!, every-at, every-of, some-of, among}
-use Rattle.model.proofs.StatementKinds.{access-no-for, accesses-is, reads-is, writes-is, reduces-is}
+use Rattle.model.proofs.StatementKinds.{access-no-for, accesses-is, reads-is, writes-is, reduces-is, field-is}
 use Rattle.model.proofs.LoopsAgree.{in-loop, loop-of, resolves-started, variable-kind}
 use Rattle.model.proofs.VariablesAgree.{FormedBefore, formed-operand, region-is, centered-is, access-computed, access-is}
 
@@ -75,6 +75,21 @@ module _ (P : Plan) where
     region-in : {f s d r : ℕ} → AccessIn f s d → (operandRegion P s ≡ r) ↔ VariableRegion P d r
     region-in a = access-region (λ t m. F t (omega (arith, a .inside))) (a .through)
 
+    field-in : {f s d g : ℕ} → AccessIn f s d → (accessField P s ≡ g) ↔ AccessField P s g
+    field-in {s = s} a = field-is P s (accesses-is P s .0 (access-computed P (a .through) .0))
+
+    -- the target of an access; two accesses of one target
+    abbrev target-in : {f s d r g : ℕ} → AccessIn f s d → operandRegion P s ≡ r → accessField P s ≡ g → AccessTarget P s r g
+    target-in {d = d} a e h = record { definition = d; through = a .through; region = region-in a .0 e; field = field-in a .0 h }
+
+    one-target :
+        {f s t r g : ℕ} (x : AccessTarget P s r g) (y : AccessTarget P t r g) → AccessIn f s (x .definition) → AccessIn f t (y .definition) →
+        Is (sameTarget P s t)
+    unfolding sameTarget
+    one-target x y a b =
+        pair (same! (region-in a .1 (x .region) ∙ sym (region-in b .1 (y .region))))
+        (same! (field-in a .1 (x .field) ∙ sym (field-in b .1 (y .field))))
+
     uncentered-in : {f s d : ℕ} → AccessIn f s d → Is (uncentered P s) ↔ (Centered P d → ⊥)
     uncentered-in a = access-uncentered (λ t m. F t (omega (arith, a .inside))) (a .through)
 
@@ -101,23 +116,20 @@ module _ (P : Plan) where
           ]
 
       lone-reduction :
-          {s t d e r : ℕ} → AccessIn f s d → AccessIn f t e → statementKind P s ≡ 6 → (Centered P d → ⊥) → VariableRegion P d r →
-          VariableRegion P e r → (statementKind P t ≡ 6) × (Centered P e → ⊥) × (statementC P t ≡ statementC P s)
-      unfolding conflicts sameTarget
-      lone-reduction {s} {t} a b k n q u =
+          {s t d e : ℕ} → AccessIn f s d → AccessIn f t e → statementKind P s ≡ 6 → (Centered P d → ⊥) → Is (sameTarget P s t) →
+          (statementKind P t ≡ 6) × (Centered P e → ⊥) × (statementC P t ≡ statementC P s)
+      unfolding conflicts
+      lone-reduction {s} {t} a b k n target =
           elim (split (reduces P t and uncentered P t and statementC P s == statementC P t)) [
             | inl y ↦ (reduces-is P t .0 (both y .0), uncentered-in b .0 (both (both y .1) .0), sym (same (both (both y .1) .1)))
-            | inr m ↦
-                let target = same! (region-in a .1 q ∙ sym (region-in b .1 u)) in
-                absurd (conflict-free a b (pair target (one (inl (pair (reduces-is P s .1 k) (pair (uncentered-in a .1 n) m))))))
+            | inr m ↦ absurd (conflict-free a b (pair target (one (inl (pair (reduces-is P s .1 k) (pair (uncentered-in a .1 n) m))))))
           ]
 
       undisturbed-read :
-          {s t d e r : ℕ} → AccessIn f s d → AccessIn f t e → (statementKind P s ≡ 1) ⊎ (statementKind P s ≡ 4) → (Centered P d → ⊥) →
-          VariableRegion P d r → VariableRegion P e r → (statementKind P t ≡ 5) ⊎ (statementKind P t ≡ 6) → ⊥
-      unfolding conflicts sameTarget
-      undisturbed-read {s} {t} a b k n q u m =
-          let target = same! (region-in a .1 q ∙ sym (region-in b .1 u)) in
+          {s t d e : ℕ} → AccessIn f s d → AccessIn f t e → (statementKind P s ≡ 1) ⊎ (statementKind P s ≡ 4) → (Centered P d → ⊥) →
+          Is (sameTarget P s t) → (statementKind P t ≡ 5) ⊎ (statementKind P t ≡ 6) → ⊥
+      unfolding conflicts
+      undisturbed-read {s} {t} a b k n target m =
           conflict-free a b (pair target (one (inr (pair (reads-is P s .1 k) (pair (uncentered-in a .1 n) (one (elim m [
             | inl x ↦ inl (writes-is P t .1 x)
             | inr x ↦ inr (reduces-is P t .1 x)
@@ -127,8 +139,12 @@ module _ (P : Plan) where
       plainly =
           record {
             writes-centered = λ s d ls i e a. centered-write (access-in ls i a) e;
-            reductions-alone = λ s t d e r ls lt i j k a n q b u. lone-reduction (access-in ls i a) (access-in lt j b) k n q u;
-            reads-undisturbed = λ s t d e r ls lt i j k a n q b u m. undisturbed-read (access-in ls i a) (access-in lt j b) k n q u m;
+            reductions-alone =
+                λ s t r g ls lt i j x y k n.
+                let a = access-in ls i (x .through) in let b = access-in lt j (y .through) in lone-reduction a b k n (one-target x y a b);
+            reads-undisturbed =
+                λ s t r g ls lt i j x y k n m.
+                let a = access-in ls i (x .through) in let b = access-in lt j (y .through) in undisturbed-read a b k n (one-target x y a b) m;
           }
 
     -- two accesses of a parallelizable loop do not conflict
@@ -136,23 +152,23 @@ module _ (P : Plan) where
     unfolding conflicts sameTarget
     no-conflict {f} {s} {t} {d} {e} L a b c = elim (either (both c .1)) [ inl h ↦ by-reduction h | inr h ↦ by-read h ]
       where
-        target : VariableRegion P d (operandRegion P t)
-        target = region-in a .0 (same (both c .0))
+        target : AccessTarget P s (operandRegion P t) (accessField P t)
+        target = target-in a (same (both (both c .0) .0)) (same (both (both c .0) .1))
 
         by-reduction :
             Is (reduces P s and uncentered P s and non (reduces P t and uncentered P t and statementC P s == statementC P t)) → ⊥
         by-reduction h =
             let u = both (both h .1) in
             let n =
-            L .reductions-alone s t d e (operandRegion P t) (a .inside) (b .inside) (a .within) (b .within)
-            (reduces-is P s .0 (both h .0)) (a .through) (uncentered-in a .0 (u .0)) target (b .through) (region-in b .0 refl) in
+            L .reductions-alone s t _ _ (a .inside) (b .inside) (a .within) (b .within) target (target-in b refl refl)
+            (reduces-is P s .0 (both h .0)) (uncentered-in a .0 (u .0)) in
             lacks (u .1) (pair (reduces-is P t .1 (n .0)) (pair (uncentered-in b .1 (n .1)) (same! (sym (n .2)))))
 
         by-read : Is (reads P s and uncentered P s and (writes P t or reduces P t)) → ⊥
         by-read h =
             let u = both (both h .1) in
-            L .reads-undisturbed s t d e (operandRegion P t) (a .inside) (b .inside) (a .within) (b .within)
-            (reads-is P s .0 (both h .0)) (a .through) (uncentered-in a .0 (u .0)) target (b .through) (region-in b .0 refl)
+            L .reads-undisturbed s t _ _ (a .inside) (b .inside) (a .within) (b .within) target (target-in b refl refl)
+            (reads-is P s .0 (both h .0)) (uncentered-in a .0 (u .0))
             (elim (either (u .1)) [ inl x ↦ inl (writes-is P t .0 x) | inr x ↦ inr (reduces-is P t .0 x) ])
 
     tested : {f : ℕ} → ParallelizableLoop P f → Is (parallelizable P f)

@@ -1,15 +1,15 @@
 -- The kinds of statement against their bytes: a view that tells the kind of every byte, and what each kind does, as equations and
 -- orders of the byte. Assumes nothing.
 use Prim.Native.Nat.{ℕ, zero, suc, _≤_}
-use mathlib.Core.Path.{_≡_, refl}
+use mathlib.Core.Path.{_≡_, refl, sym, subst, _∙_}
 use mathlib.Core.Logic.{_⊎_, inl, inr, ⊎-elim, _↔_}
 use mathlib.Core.Bool.{Bool, true, false}
 use native.Mathlib.Omega.{arith}
 use Rattle.model.specs.Tests.{Is}
 use Rattle.model.specs.Layout.{Plan, statementKind}
-use Rattle.model.specs.Statements.{kindOf, opensLoop, definesVariable, accessOf, isAccess, kind, opens, defines, accesses}
+use Rattle.model.specs.Statements.{kindOf, opensLoop, definesVariable, accessOf, isAccess, kind, opens, defines, accesses, fieldBy, accessField}
 use Rattle.model.specs.Parallel.{isRead, isWrite, isReduce, reads, writes, reduces}
-use Rattle.model.specs.LoopRelations.{Defining}
+use Rattle.model.specs.LoopRelations.{Defining, AccessField, of-load, of-read, of-write, of-reduce}
 use Rattle.model.specs.declared.StatementKind.{StatementKind}
 use Rattle.model.specs.declared.StatementKind.the-variants.{For, Load, Call, Copy, Read, Write, Reduce, Unknown}
 use Rattle.model.proofs.Tests.{falsum, fails, refuted}
@@ -131,3 +131,31 @@ module _ (P : Plan) (s : ℕ) where
 
   pub access-opens-none : Is (accesses P s) → opens P s ≡ false
   access-opens-none h = fails (refuted (λ o. access-no-for (accesses-is .0 h) (opens-is .0 o)))
+
+  -- the field of an access, as a relation
+  names-field : Accessing P s → AccessField P s (accessField P s)
+  unfolding accessField fieldBy
+  names-field a = by (kind-view P s)
+    where
+      never : (k : ℕ) → statementKind P s ≡ k → (k ≡ 1 → ⊥) → ((4 ≤ k) × (k ≤ 6) → ⊥) → ⊥
+      never k i one others = ⊎-elim (λ e. one (sym i ∙ e)) (λ l. others (rw i at l)) a
+
+      by : {K : StatementKind} → KindView (statementKind P s) K → AccessField P s (fieldBy P K s)
+      by (is-load i j) = of-load i (rw j)
+      by (is-read i j) = of-read i (rw j)
+      by (is-write i j) = of-write i (rw j)
+      by (is-reduce i j) = of-reduce i (rw j)
+      by (is-for i j) = absurd (never _ i (omega arith) (omega arith))
+      by (is-call i j) = absurd (never _ i (omega arith) (omega arith))
+      by (is-copy i j) = absurd (never _ i (omega arith) (omega arith))
+      by (is-unknown i j) = absurd (never _ refl (omega arith) (omega arith))
+
+  field-named : {g : ℕ} → AccessField P s g → accessField P s ≡ g
+  unfolding accessField fieldBy kind kindOf
+  field-named (of-load i e) = rw (i, e)
+  field-named (of-read i e) = rw (i, e)
+  field-named (of-write i e) = rw (i, e)
+  field-named (of-reduce i e) = rw (i, e)
+
+  pub field-is : {g : ℕ} → Accessing P s → (accessField P s ≡ g) ↔ AccessField P s g
+  field-is a = (λ h. subst (AccessField P s) h (names-field a), field-named)

@@ -3,7 +3,7 @@
 use Prim.Native.Nat.{ℕ, suc, _≤_, _<_}
 use mathlib.Core.Path.{_≡_}
 use mathlib.Core.Logic.{_⊎_}
-use Rattle.model.specs.Layout.{Plan, nodeCount, statementCount, source, target, suppliedRegion, statementKind, statementA, statementB, nodeKind, nodeA, nodeB, assigned}
+use Rattle.model.specs.Layout.{Plan, nodeCount, statementCount, source, target, suppliedRegion, statementKind, statementA, statementB, statementC, nodeKind, nodeA, nodeB, assigned}
 
 module _ (P : Plan) where
   -- statement s stands in the loop that FOR f opens
@@ -52,6 +52,20 @@ module _ (P : Plan) where
   pub data AccessThrough (s d : ℕ) : Type 0 where
     by-load : statementKind P s ≡ 1 → Resolves s (statementB P s) d → AccessThrough s d
     directly : 4 ≤ statementKind P s → statementKind P s ≤ 6 → Resolves s (statementA P s) d → AccessThrough s d
+
+  -- access s is of field g: LOAD's "c = field holding the map", "b = field" of READ, WRITE and REDUCE
+  pub data AccessField (s g : ℕ) : Type 0 where
+    of-load : statementKind P s ≡ 1 → g ≡ statementC P s → AccessField s g
+    of-read : statementKind P s ≡ 4 → g ≡ statementB P s → AccessField s g
+    of-write : statementKind P s ≡ 5 → g ≡ statementB P s → AccessField s g
+    of-reduce : statementKind P s ≡ 6 → g ≡ statementB P s → AccessField s g
+
+  -- access s is of "region and field" r and g; `definition` defines its variable
+  pub record AccessTarget (s r g : ℕ) : Type 0 where
+    pub definition : ℕ
+    pub through : AccessThrough s definition
+    pub region : VariableRegion definition r
+    pub field : AccessField s g
 
   -- "A loop reduces through a pointer when it has an uncentered REDUCE"
   pub record ReducesThroughPointer (f : ℕ) : Type 0 where

@@ -4,7 +4,7 @@ use mathlib.Core.Bool.{Bool, true, false}
 use Rattle.model.specs.Tests.{_and_, _or_, non, _==_, any, every}
 use Rattle.model.specs.Outcomes.{require}
 use Rattle.model.specs.Layout.{Plan, statementCount, statementC}
-use Rattle.model.specs.Statements.{kind, accessOf, opens, accesses, loop, operandDefinition, operandRegion, centered}
+use Rattle.model.specs.Statements.{kind, accessOf, opens, accesses, loop, operandDefinition, operandRegion, accessField, centered}
 use Rattle.model.specs.declared.Outcome.{Outcome}
 use Rattle.model.specs.declared.Refusal.the-variants.{NotParallelizable}
 use Rattle.model.specs.declared.Access.{Access}
@@ -52,12 +52,12 @@ module _ (P : Plan) where
   unfoldable pub accessOfLoop : ℕ → ℕ → Bool
   accessOfLoop f s = accesses P s and loop P s == f
 
-  -- the two accesses are of one region
+  -- the two accesses are of one target: "region and field"
   unfoldable pub sameTarget : ℕ → ℕ → Bool
-  sameTarget s t = operandRegion P s == operandRegion P t
+  sameTarget s t = operandRegion P s == operandRegion P t and accessField P s == accessField P t
 
-  -- "a region with an uncentered REDUCE has no other access in the loop but uncentered REDUCEs of the same operator";
-  -- "a region with an uncentered read has no WRITE or REDUCE in the loop"
+  -- a target "with an uncentered REDUCE has no other access in the loop but uncentered REDUCEs of the same operator";
+  -- one "with an uncentered read has no WRITE or REDUCE in the loop"
   unfoldable pub conflicts : ℕ → ℕ → Bool
   conflicts s t =
       sameTarget s t

@@ -6,7 +6,7 @@ use mathlib.Core.Logic.{_⊎_}
 use lib.ListN.{length}
 use Rattle.model.specs.Bytes.{Bytes, byte, boundary, body}
 use Rattle.model.specs.Layout.{Plan, planOf, regionCount, mapCount, suppliedCount, statementCount, nodeCount, assignmentCount, stepCount, fields, source, target, totality, suppliedRegion, suppliedFlags, statementKind, statementA, statementB, statementC, nodeKind, nodeA, nodeB, nodeUnused, assigned, stepLemma, stepX, stepY, stepP, stepQ}
-use Rattle.model.specs.LoopRelations.{InLoop, Resolves, WithinVariableLimit, VariableRegion, Centered, AccessThrough, ReducesThroughPointer, HasSymbol, SymbolsBefore, SymbolRegion, NodeRegion, Bound}
+use Rattle.model.specs.LoopRelations.{InLoop, Resolves, WithinVariableLimit, VariableRegion, Centered, AccessThrough, AccessTarget, ReducesThroughPointer, HasSymbol, SymbolsBefore, SymbolRegion, NodeRegion, Bound}
 
 -- the table of sections: "record bytes" and "most" of each, and "least 1" of the regions
 pub data SectionLength (section n : ℕ) : Type 0 where
@@ -59,17 +59,16 @@ module _ (P : Plan) where
     -- "each WRITE is centered"
     pub writes-centered :
         (s d : ℕ) → s < statementCount P → InLoop P f s → statementKind P s ≡ 5 → AccessThrough P s d → Centered P d
-    -- "a region with an uncentered REDUCE has no other access in the loop but uncentered REDUCEs of the same operator"
+    -- a "region and field" with "an uncentered REDUCE has no other access in the loop but uncentered REDUCEs of the same operator"
     pub reductions-alone :
-        (s t d e r : ℕ) → s < statementCount P → t < statementCount P → InLoop P f s → InLoop P f t →
-        statementKind P s ≡ 6 → AccessThrough P s d → (Centered P d → ⊥) → VariableRegion P d r →
-        AccessThrough P t e → VariableRegion P e r →
-        (statementKind P t ≡ 6) × (Centered P e → ⊥) × (statementC P t ≡ statementC P s)
-    -- "a region with an uncentered read has no WRITE or REDUCE in the loop"
+        (s t r g : ℕ) → s < statementCount P → t < statementCount P → InLoop P f s → InLoop P f t →
+        (x : AccessTarget P s r g) → (y : AccessTarget P t r g) → statementKind P s ≡ 6 → (Centered P (x .definition) → ⊥) →
+        (statementKind P t ≡ 6) × (Centered P (y .definition) → ⊥) × (statementC P t ≡ statementC P s)
+    -- one with "an uncentered read has no WRITE or REDUCE in the loop"
     pub reads-undisturbed :
-        (s t d e r : ℕ) → s < statementCount P → t < statementCount P → InLoop P f s → InLoop P f t →
-        (statementKind P s ≡ 1) ⊎ (statementKind P s ≡ 4) → AccessThrough P s d → (Centered P d → ⊥) → VariableRegion P d r →
-        AccessThrough P t e → VariableRegion P e r →
+        (s t r g : ℕ) → s < statementCount P → t < statementCount P → InLoop P f s → InLoop P f t →
+        (x : AccessTarget P s r g) → AccessTarget P t r g →
+        (statementKind P s ≡ 1) ⊎ (statementKind P s ≡ 4) → (Centered P (x .definition) → ⊥) →
         (statementKind P t ≡ 5) ⊎ (statementKind P t ≡ 6) → ⊥
 
   -- section 5, by kind

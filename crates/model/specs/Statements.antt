@@ -112,6 +112,21 @@ module _ (P : Plan) where
   unfoldable pub operandDefinition : ℕ → ℕ
   operandDefinition s = definition s (operand s)
 
+  -- the field of an access: "LOAD reads the field it names", "c = field holding the map"; READ, WRITE and REDUCE "b = field"
+  unfoldable pub fieldBy : StatementKind → ℕ → ℕ
+  fieldBy For s = 0
+  fieldBy Load s = statementC P s
+  fieldBy Call s = 0
+  fieldBy Copy s = 0
+  fieldBy Read s = statementB P s
+  fieldBy Write s = statementB P s
+  fieldBy Reduce s = statementB P s
+  fieldBy Unknown s = 0
+
+  -- the field of access s
+  unfoldable pub accessField : ℕ → ℕ
+  accessField s = fieldBy (kind s) s
+
   -- "A variable belongs to one region: the loop's, the map's target, or the copied one's"
   unfoldable pub regionBy : StatementKind → ℕ → (ℕ → ℕ) → ℕ
   regionBy For s earlier = statementA P s

@@ -1,14 +1,16 @@
 -- The stages of the checks in a row: while every stage passed, what is left decides; and what each hands on. Assumes nothing.
-use Prim.Native.Nat.{ℕ}
+use Prim.Native.Nat.{ℕ, _≤_, _<_}
 use mathlib.Core.Path.{_≡_, sym, _∙_, ap}
 use mathlib.Core.List.{List}
 use Rattle.model.specs.Outcomes.{_then_}
-use Rattle.model.specs.Layout.{Plan}
+use Rattle.model.specs.Layout.{Plan, regionCount, fields}
+use Rattle.model.specs.Declarations.{regionCheck}
 use Rattle.model.specs.Verdict.{recordsCheck}
 use Rattle.model.specs.declared.Refusal.{Refusal}
 use Rattle.model.specs.declared.Outcome.{Outcome}
 use Rattle.model.specs.declared.Outcome.the-variants.{Pass, Refuse}
-use Rattle.model.proofs.Outcomes.{never, then-assoc}
+use Rattle.model.proofs.Tests.{both, most}
+use Rattle.model.proofs.Outcomes.{never, then-pass, then-assoc, require-pass, scan-pass}
 use Rattle.expressions.specs.declared.nodes.CheckedNodes.{CheckedNodes}
 use Rattle.expressions.specs.Nodes.{NodesChecked}
 use Rattle.expressions.specs.Steps.{stepsCheck, StepsRead}
@@ -24,6 +26,11 @@ pub in-stages : (P : Plan) → recordsCheck P ≡
     (declarationsCheck P then (statementsCheck P then loopsCheck P) then nodesCheck P then assignmentsCheck P then stepsCheck P then needsCheck P)
 unfolding recordsCheck
 in-stages P = simp then-assoc
+
+-- the regions of declarations that passed have at most 8 fields
+pub few-fields : (P : Plan) → declarationsCheck P ≡ Pass → (r : ℕ) → r < regionCount P → fields P r ≤ 8
+unfolding regionCheck
+few-fields P h r lt = most (both (require-pass _ _ (scan-pass _ _ (then-pass _ _ h .0) r lt)) .1)
 
 -- a refusal of one stage is that of all records
 pub records-refused : {P : Plan} {checked : CheckedRecords} {r : Refusal} → checked ≡ refusedRecords r → Refuse r ≡ recordsCheck P → RecordsChecked P checked

@@ -21,6 +21,7 @@ use primitives::sections::SUPPLIED;
 ghost use mathlib.Core.Path.{_≡_};
 ghost use lib.ListN.{length};
 ghost use Rattle.model.specs.Layout.{planOf};
+ghost use Rattle.model.specs.declared.Outcome.the-variants.{Pass};
 ghost use Rattle.layout.specs.Frames.{Laid};
 ghost use Rattle.loops.specs.Section.{StatementsChecked};
 ghost use Rattle.expressions.specs.Nodes.{NodesChecked};
@@ -47,10 +48,10 @@ fn check_declarations(plan: &[u8], frame: Frame) -> Outcome
     and_then(region_outcome, and_then(map_outcome, supplied_outcome))
 }
 
-// Section 4, then the loops.
+// Section 4, then the loops, after the declarations.
 fn check_statements(plan: &[u8], frame: Frame) -> CheckedStatements
     requires { ⌜ Laid (now plan) frame ⌝ }
-    ensures { λ r. ⌜ StatementsChecked (planOf (now (plan .entry))) r ⌝ }
+    ensures { λ r. ⌜ (declarationsCheck (planOf (now (plan .entry))) ≡ Pass → StatementsChecked (planOf (now (plan .entry))) r) ⌝ }
 {
     let regions = plan_section(plan, frame, REGIONS);
     let maps = plan_section(plan, frame, MAPS);

@@ -16,7 +16,7 @@ use Rattle.model.specs.DataSets.{DataSet, dataOf, pieces, size, mapsTo}
 use Rattle.model.specs.Membership.{nodeSetsBy, nodeSets, member}
 use Rattle.model.specs.Words.{holds, word, store}
 use Rattle.model.specs.Evaluation.{wordsNeeded, nodeWord, filledWords}
-use Rattle.model.proofs.Tests.{both, pair, less, less!, at-each, _also_}
+use Rattle.model.proofs.Tests.{both, pair, less, less!, at-each, _also_, same-truth}
 use Rattle.model.proofs.Words.{word-same, store-same, store-pieces}
 use Rattle.model.proofs.FinalWords.{node-word, written-holds}
 use Rattle.model.specs.AcceptedPlans.{Facts}
@@ -24,7 +24,6 @@ use Rattle.model.proofs.Fitting.{Fit}
 use Rattle.model.proofs.NodeSets.{supplied-node, equal-node, union-node, intersection-node, difference-node, image-node, preimage-node, kind-known, region-small, node-within}
 use Rattle.subregions.specs.Pieces.{pieceWords}
 use Rattle.subregions.specs.Fill.{setsOfWords, nodeFilled, NodeSizes, SizeSources, FillSources, NodeSources}
-use Rattle.bitsets.proofs.Bits.{agree}
 use Rattle.subregions.proofs.NodeOperators.{sets-are}
 
 module _ (P : Plan) (D : DataSet) (F : Facts P) where
@@ -66,7 +65,7 @@ module _ (P : Plan) (D : DataSet) (F : Facts P) where
     words-members : (k : ℕ) → k < j → (i : ℕ) → i < pieces D → setsOfWords P D now k i ≡ member P D k i
     unfolding setsOfWords
     words-members k h i l = fun-ext (λ e.
-        agree
+        same-truth
         (λ t. sym (here e (less (both t .0))) ∙ both t .1)
         (λ t. let w = node-within P D F fit k (omega arith) i e t in pair (less! (w .1)) (here e (w .1) ∙ t)))
       where

@@ -10,11 +10,11 @@ use lib.Bits.{bitOr}
 use Rattle.model.specs.Tests.{Is, _and_, _or_, non, any, _==_, _<?_}
 use Rattle.model.specs.Bytes.{Bytes, u16}
 use Rattle.model.specs.Words.{bit, digit, fromBits, word}
-use Rattle.model.proofs.Tests.{falsum, both, pair, either, one, lacks, refuted, same, same!, less, less!, some-of, among}
+use Rattle.model.proofs.Tests.{falsum, both, pair, either, one, lacks, refuted, same, same!, less, less!, some-of, among, same-truth}
 use Rattle.model.proofs.Words.{bit-zero, digit-less, number-less, number-same, is-number}
 use Rattle.bitsets.specs.Elements.{entriesOf, addingEntries, leadingTo}
 use Rattle.primitives.proofs.Shifts.{shifted-or}
-use Rattle.bitsets.proofs.Bits.{agree, refute}
+use Rattle.primitives.proofs.Bits.{refute}
 
 -- a word from its highest element down: the bits of word w from element k on
 unfoldable pub upper : (ℕ → Bool) → ℕ → ℕ → ℕ
@@ -77,14 +77,14 @@ pub leading-at : (n : ℕ) (entries : Bytes) (start size : ℕ) (elements : ℕ 
     → (v <? size and elements v) ≡ leadingTo n entries start size elements k
 unfolding leadingTo
 leading-at n entries start size elements k v h q =
-    ap (λ (x : ℕ). x <? size and elements x) q ∙ agree (λ t. pair (less! h) t) (λ t. both t .1)
+    ap (λ (x : ℕ). x <? size and elements x) q ∙ same-truth (λ t. pair (less! h) t) (λ t. both t .1)
 
 -- the sets agree where the operand's elements below the size do
 pub leading-same : (n : ℕ) (entries : Bytes) (start size : ℕ) (A B : ℕ → Bool) → ((e : ℕ) → e < size → A e ≡ B e) → (k : ℕ)
     → leadingTo n entries start size A k ≡ leadingTo n entries start size B k
 unfolding leadingTo
 leading-same n entries start size A B h k =
-    agree (λ t. pair (both t .0) (pair (both (both t .1) .0) (sym (h _ (less (both (both t .1) .0))) ∙ both (both t .1) .1)))
+    same-truth (λ t. pair (both t .0) (pair (both (both t .1) .0) (sym (h _ (less (both (both t .1) .0))) ∙ both (both t .1) .1)))
     (λ t. pair (both t .0) (pair (both (both t .1) .0) (h _ (less (both (both t .1) .0)) ∙ both (both t .1) .1)))
 
 -- a set with the entries of a word's members but for those of a rest
@@ -95,7 +95,7 @@ module _ (entries : Bytes) (start members : ℕ) (elements : ℕ → Bool) where
   pub gathered-none : (e : ℕ) → elements e ≡ gathered entries start members elements members e
   unfolding gathered entriesOf
   gathered-none e =
-      agree (λ t. one (inl t))
+      same-truth (λ t. one (inl t))
       (λ t. elim (either t) [
         | inl x ↦ x
         | inr x ↦ let k = some-of x in absurd (lacks (both (both (k .2) .0) .1) (both (both (k .2) .0) .0))
@@ -107,7 +107,7 @@ module _ (entries : Bytes) (start members : ℕ) (elements : ℕ → Bool) where
       → (e : ℕ) → (gathered entries start members elements rest e or e == v) ≡ gathered entries start members elements left e
   unfolding gathered entriesOf
   gathered-next rest left t v inside here member q cleared e =
-      agree
+      same-truth
       (λ s. elim (either s) [
         | inl x ↦ one (elim (either x) [
           | inl y ↦ inl y
@@ -136,13 +136,13 @@ module _ (entries : Bytes) (start members : ℕ) (elements : ℕ → Bool) where
   unfolding gathered entriesOf addingEntries
   gathered-all rest z e =
       ap (λ (t : Bool). elements e or t)
-      (agree
+      (same-truth
       (λ t. let k = some-of t in among (k .0, k .1, pair (both (both (k .2) .0) .0) (both (k .2) .1)))
       (λ t. let k = some-of t in among (k .0, k .1, pair (pair (both (k .2) .0) (refuted (λ h. falsum (sym (ap (λ (r : ℕ). bit r (k .0)) z ∙ bit-zero (k .0)) ∙ h)))) (both (k .2) .1))))
 
 -- an entry that leads to an element
 pub entry-cut : (u e : ℕ) → e < 512 → (e == min u 512) ≡ (e == u)
-entry-cut u e l = agree (λ t. let q = same t in same! (omega arith)) (λ t. let q = same t in same! (omega arith))
+entry-cut u e l = same-truth (λ t. let q = same t in same! (omega arith)) (λ t. let q = same t in same! (omega arith))
 
 module _ (entries : Bytes) (start : ℕ) (elements : ℕ → Bool) where
   pub entries-none : (e : ℕ) → false ≡ entriesOf 0 entries start elements e
@@ -154,7 +154,7 @@ module _ (entries : Bytes) (start : ℕ) (elements : ℕ → Bool) where
       → addingEntries entries (start + 128 * w) members (entriesOf (64 * w) entries start elements) e ≡ entriesOf (64 * (w + 1)) entries start elements e
   unfolding entriesOf addingEntries
   entries-word w members bits e =
-      agree
+      same-truth
       (λ t. elim (either t) [
         | inl x ↦ let k = some-of x in among (k .0, omega (arith, k .1), k .2)
         | inr x ↦
@@ -185,7 +185,7 @@ pub entries-first : (n m : ℕ) (entries : Bytes) (start : ℕ) (A B : ℕ → B
     → entriesOf m entries start A e ≡ entriesOf n entries start B e
 unfolding entriesOf
 entries-first n m entries start A B few h e =
-    agree
+    same-truth
     (λ t. let k = some-of t in let s = sym (h (k .0) (k .1)) ∙ both (k .2) .0 in among (k .0, less (both s .0), pair (both s .1) (both (k .2) .1)))
     (λ t. let k = some-of t in
     let l : k .0 < m = omega (arith, k .1) in

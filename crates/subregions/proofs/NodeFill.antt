@@ -15,7 +15,7 @@ use Rattle.model.specs.Nodes.{nodeKindAt, nodeRegion}
 use Rattle.model.specs.DataSets.{DataSet, dataOf, pieces, size, entryStart, pieceBytes, memberStart, suppliedBit, supplied}
 use Rattle.model.specs.Membership.{equal, nodeSetsBy, nodeSets}
 use Rattle.model.specs.Words.{bit, holds, store}
-use Rattle.model.proofs.Tests.{both, pair, less!, same}
+use Rattle.model.proofs.Tests.{both, pair, less!, same, same-truth}
 use Rattle.model.proofs.Words.{word-same, store-same}
 use Rattle.model.specs.AcceptedPlans.{Facts}
 use Rattle.model.proofs.Fitting.{Fit, fit, entries-there}
@@ -26,7 +26,6 @@ use Rattle.bitsets.specs.declared.words.SetOperator.the-variants as set
 use Rattle.bitsets.specs.Elements.{between, combination, combined, suppliedElements}
 use Rattle.subregions.specs.Pieces.{pieceWords, suppliedPieces, equalPieces, combinedPieces, imagePieces, preimagePieces, SuppliedRoom, EqualRoom, CombinedRoom, ImageRoom, PreimageRoom}
 use Rattle.subregions.specs.Fill.{setsOfWords, nodeFilled, NodeSources}
-use Rattle.bitsets.proofs.Bits.{agree}
 use Rattle.subregions.proofs.NodeOperators.{image-is, preimage-is, share-combination, sets-are, Combines, byte-is, members-near}
 
 -- node j's operands as they are read
@@ -107,7 +106,7 @@ module _ {P : Plan} {d : Bytes} {nodes entries members entryStarts memberStarts 
       supplied-done q =
           let n-is = size-is ∙ ap (size D) (supplied-is .region) in
           done _ _ q (λ i e l h. rw (sets-are P D j (setsOfWords P D words) k, H .sources .members-are, from-is, n-is)
-          (agree (λ t. pair (less! (omega (arith, H .sources .pieces-are))) t) (λ t. both t .1)))
+          (same-truth (λ t. pair (less! (omega (arith, H .sources .pieces-are))) t) (λ t. both t .1)))
 
     -- equal
     pub equal-room : EqualRoom words n N (j * N * 8)
@@ -119,7 +118,7 @@ module _ {P : Plan} {d : Bytes} {nodes entries members entryStarts memberStarts 
     equal-done k q =
         let n-is = size-is ∙ ap (size D) (equal-node P D F j (H .node-listed) (byte-is P D F j (H .node-listed) k) .region) in
         done _ _ q (λ i e l h. rw (sets-are P D j (setsOfWords P D words) k, ← H .sources .pieces-are, n-is, add-one i)
-        (agree (λ t. pair (less! l) t) (λ t. both t .1)))
+        (same-truth (λ t. pair (less! l) t) (λ t. both t .1)))
 
     -- the words of an operand's piece
     operand : (o i : ℕ) → o * N * 8 + i * 8 ≡ (o * pieces D + i) * 8

@@ -11,7 +11,7 @@ use Rattle.model.specs.Layout.{Plan, suppliedCount, nodeCount, source, target, 
 use Rattle.model.specs.Nodes.{SUPPLIED, EQUAL, UNION, INTERSECTION, DIFFERENCE, IMAGE, PREIMAGE, nodeKindOf, nodeKindAt, nodeRegion}
 use Rattle.model.specs.DataSets.{DataSet, NONE, pieces, size, entryStart, entry, low, past, mapsTo, pieceBytes, memberStart}
 use Rattle.model.specs.Membership.{nodeSetsBy, nodeSets}
-use Rattle.model.proofs.Tests.{both, pair, less, less!, most, most!, same, same!, split, fails, some-of, among, pick-true, pick-false, at-each, _also_}
+use Rattle.model.proofs.Tests.{both, pair, less, less!, most, most!, same, same!, split, fails, some-of, among, pick-true, pick-false, at-each, _also_, same-truth}
 use Rattle.model.specs.AcceptedPlans.{Facts}
 use Rattle.model.proofs.Fitting.{Fit, fit}
 use Rattle.model.proofs.NodeSets.{TwoOperands, union-node, intersection-node, difference-node, kind-known}
@@ -20,14 +20,14 @@ use Rattle.model.specs.declared.NodeKind.the-variants.{Supplied, Equal, Union, 
 use Rattle.bitsets.specs.declared.words.SetOperator.{SetOperator}
 use Rattle.bitsets.specs.declared.words.SetOperator.the-variants as set
 use Rattle.bitsets.specs.Elements.{combination, combined, entriesOf, leadingTo}
-use Rattle.bitsets.proofs.Bits.{agree, refute}
+use Rattle.primitives.proofs.Bits.{refute}
 use Rattle.subregions.proofs.NodePieces.{product}
 
 -- an entry below 512 is not none: it leads to one element
 maps-to-is : (P : Plan) (D : DataSet) (m k e : ℕ) → e < 512 → mapsTo P D m k e ≡ (k <? size D (source P m) and entry P D m k == e)
 unfolding mapsTo low past
 maps-to-is P D m k e h =
-    agree
+    same-truth
     (λ t.
     let inside = both t .0 in
     let from = most (both (both t .1) .0) in
@@ -47,7 +47,7 @@ module _ (P : Plan) (D : DataSet) (m : ℕ) (A : Partition) (i : ℕ) (S : ℕ �
       → entriesOf (size D (source P m)) (D .entries) (entryStart P D m) S e ≡ image (size D (source P m)) (mapsTo P D m) A i e
   unfolding entriesOf image entry
   image-is is e h =
-      agree
+      same-truth
       (λ t. let k = some-of t in
       among (k .0, k .1, pair (sym (is (k .0)) ∙ pair (less! (k .1)) (both (k .2) .0)) (maps-to-is P D m (k .0) e h ∙ pair (less! (k .1)) (both (k .2) .1))))
       (λ t. let k = some-of t in
@@ -57,7 +57,7 @@ module _ (P : Plan) (D : DataSet) (m : ℕ) (A : Partition) (i : ℕ) (S : ℕ �
       → leadingTo (size D (source P m)) (D .entries) (entryStart P D m) (size D (target P m)) S k ≡ preimage (size D (target P m)) (mapsTo P D m) A i k
   unfolding leadingTo preimage entry
   preimage-is few is k =
-      agree
+      same-truth
       (λ t.
       let v = less (both (both t .1) .0) in
       among (entry P D m k, v, pair (maps-to-is P D m k (entry P D m k) (omega arith) ∙ pair (both t .0) (same! refl)) (sym (is (entry P D m k)) ∙ both t .1)))

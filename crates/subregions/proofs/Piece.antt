@@ -16,7 +16,7 @@ use Rattle.model.proofs.Words.{bit-zero, bit-number, number-less, is-word, hold
 use Rattle.bitsets.specs.declared.words.SetOperator.{SetOperator}
 use Rattle.bitsets.specs.Elements.{PieceOf, combination, combinedBits, combined, masked, suppliedElements, bytesBits, reversedBits}
 use Rattle.subregions.specs.Operators.{SetOf, OperandSet}
-use Rattle.bitsets.proofs.Bits.{and-swap, bit-and}
+use Rattle.primitives.proofs.Bits.{and-swap, bit-and}
 use Rattle.bitsets.proofs.Elements.{added}
 use Rattle.primitives.proofs.Filling.{entry-next, entry-changed}
 

@@ -10,9 +10,9 @@ use lib.Pow.{shr-lt}
 use lib.Bits.{bitAnd}
 use Rattle.model.specs.Tests.{Is, _and_, non, _==_}
 use Rattle.model.specs.Words.{bit}
-use Rattle.model.proofs.Tests.{both, pair, lacks, refuted, same, same! }
+use Rattle.model.proofs.Tests.{both, pair, lacks, refuted, same, same!, same-truth}
 use Rattle.model.proofs.Words.{bit-first, bit-next}
-use Rattle.bitsets.proofs.Bits.{agree, refute, false-and, and-true, bit-and}
+use Rattle.primitives.proofs.Bits.{refute, false-and, and-true, bit-and}
 
 -- they are zeros
 zeros-low : (d w e : ℕ) → e < trailingZeros d w → bit w e ≡ false
@@ -67,14 +67,14 @@ lowest-cleared (suc d) w b some small = go (λ b n. lowest-cleared d (w / 2) b n
         let half : (w - 1) / 2 ≡ w / 2 - 1 = omega arith in
         bit-and w (w - 1) (suc b) ∙ ap₂ _and_ (bit-next w b) (bit-next (w - 1) b ∙ ap (λ (x : ℕ). bit x b) half) ∙ sym (bit-and (w / 2) (w / 2 - 1) b)
         ∙ f b (λ z. some (omega arith))
-        ∙ ap₂ (λ (s t : Bool). s and non t) (sym (bit-next w b)) (agree (λ t. let p = same t in same! (omega arith)) (λ t. let p = same t in same! (omega arith)))
+        ∙ ap₂ (λ (s t : Bool). s and non t) (sym (bit-next w b)) (same-truth (λ t. let p = same t in same! (omega arith)) (λ t. let p = same t in same! (omega arith)))
     go f (suc r) q zero =
         let even : bit (w - 1) 0 ≡ false = bit-first (w - 1) ∙ refute (λ t. let p = same t in omega arith) in
         bit-and w (w - 1) 0 ∙ ap (λ (t : Bool). bit w 0 and t) (even ∙ sym (refute (λ h. lacks h (same! refl))))
     go f (suc r) q (suc b) =
         let half : (w - 1) / 2 ≡ w / 2 = omega arith in
         bit-and w (w - 1) (suc b) ∙ ap₂ _and_ (bit-next w b) (bit-next (w - 1) b ∙ ap (λ (x : ℕ). bit x b) half)
-        ∙ agree (λ t. both t .0) (λ t. pair t t)
+        ∙ same-truth (λ t. both t .0) (λ t. pair t t)
         ∙ sym (ap₂ _and_ (bit-next w b) (refuted (λ h. let p = same h in omega arith)) ∙ and-true _)
 
 -- the lowest member of a word

@@ -162,6 +162,29 @@ pub fn largest_check() -> Workload {
     )
 }
 
+/// One loop, accepted only because it is judged by field: half of its region's fields are read through pointers, the
+/// other half reduced. Whoever compares accesses two by two finds no pair to stop at.
+pub fn longest_loop(statements: usize) -> Workload {
+    let mut random = Random::new(17);
+    let tables = Plan { regions: vec![[limit::FIELDS as u8]], maps: vec![[0, 0, 1]; 4], ..Plan::default() };
+    let mut builder = Builder::new(&mut random, tables);
+    let plan = &mut builder.plan;
+    let mut current = Loop::open(builder.random, plan, 0);
+    let pointers = plan.maps.len();
+    (0..pointers).for_each(|map| current.load(plan, map as u8, 0, map as u8));
+    while plan.statements.len() < statements {
+        let turn = plan.statements.len();
+        let field = turn % limit::FIELDS;
+        let kind = if field < limit::FIELDS / 2 { statement::READ } else { statement::REDUCE };
+        current.push_access(plan, 1 + turn / limit::FIELDS % pointers, [kind, field as u8, 0]);
+    }
+    builder.assign(&current, 0, Omission::Nothing).expect("there is room for what one loop needs");
+    let plan = std::mem::take(&mut builder.plan);
+    let data = data::filled(&mut random, &plan, 4, vec![64]);
+    let fields = limit::FIELDS;
+    Workload::new(format!("one loop: {statements} statements, {fields} fields"), &plan, &data)
+}
+
 /// A loop of eight statements that reads through pointers.
 fn long_loop(builder: &mut Builder) -> Loop {
     let plan = &mut builder.plan;
@@ -193,6 +216,7 @@ mod tests {
         let mut workloads: Vec<Workload> =
             Mix::ALL.iter().map(|&mix| mixed(mix, limit::NODES, 3, 70)).collect();
         workloads.extend([filed_example(), largest_check()]);
+        workloads.extend([8, limit::STATEMENTS].map(longest_loop));
         for workload in workloads {
             let mut words = vec![0; workload.words];
             let answer = reference::evaluate(&workload.plan, &workload.data, &mut words);

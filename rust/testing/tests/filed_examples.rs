@@ -1,4 +1,4 @@
-//! The filed examples, for every version there is.
+//! The filed examples, and loops judged by region and field, for every version there is.
 #![forbid(unsafe_code)]
 
 use mavisglen::{Answer, Refusal, MOST_WORDS};
@@ -161,4 +161,101 @@ fn a_copy_of_the_loop_variable_is_centered() {
         ..one_region(vec![[node::EQUAL, 0, 0, 0]], vec![[2, 0, 0, 0, 0], [5, 0, 0, 0, 0]])
     };
     gives(&plan.encode(), Answer::Accepted { symbols: 2, nodes: 1, steps: 2 });
+}
+
+/// 001's figure 1, second loop: for c in Cells: Cells[c].vel += g(Cells[c].acc, Cells[h(c)].acc).
+fn figure_1_second_loop() -> Plan {
+    const VEL: u8 = 0;
+    const ACC: u8 = 1;
+    Plan {
+        regions: vec![[2]],
+        maps: vec![[0, 0, 1]],
+        statements: vec![
+            [statement::FOR, 0, 0, 0],
+            [statement::READ, 0, ACC, 0],
+            [statement::CALL, 0, 0, 0],
+            [statement::READ, 1, ACC, 0],
+            [statement::REDUCE, 0, VEL, 0],
+        ],
+        nodes: vec![[node::EQUAL, 0, 0, 0], [node::IMAGE, 0, 0, 0]],
+        assignments: vec![[0], [0], [1], [0]],
+        steps: vec![[2, 0, 0, 0, 0], [5, 0, 0, 0, 0], [5, 1, 1, 0, 0]],
+        ..Plan::default()
+    }
+}
+
+#[test]
+fn a_loop_may_read_one_field_and_reduce_another() {
+    let mut plan = figure_1_second_loop();
+    gives(&plan.encode(), Answer::Accepted { symbols: 4, nodes: 2, steps: 3 });
+    plan.statements[4][2] = plan.statements[3][2];
+    gives(&plan.encode(), Refusal::NotParallelizable(0).into());
+}
+
+/// A loop over region 0 with all that two accesses need: variable 1 points into the region, 2 into another.
+fn loop_of_two(accesses: [[u8; 4]; 2]) -> Plan {
+    let through = |access: [u8; 4]| if access[0] == statement::LOAD { access[2] } else { access[1] };
+    let variables = [[statement::FOR, 0, 0, 0], [statement::CALL, 0, 0, 0], [statement::CALL, 1, 0, 0]];
+    Plan {
+        regions: vec![[3], [3]],
+        maps: vec![[0, 0, 1], [0, 1, 1]],
+        statements: [&variables[..], &accesses].concat(),
+        nodes: vec![[node::EQUAL, 0, 0, 0], [node::IMAGE, 0, 0, 0], [node::IMAGE, 0, 1, 0]],
+        assignments: vec![[0], [through(accesses[0])], [through(accesses[1])]],
+        steps: vec![[2, 0, 0, 0, 0], [1, 0, 0, 0, 0], [5, 0, 0, 0, 0], [5, 1, 1, 0, 0], [5, 2, 2, 0, 0]],
+        ..Plan::default()
+    }
+}
+
+fn may_stand_together(accesses: [[u8; 4]; 2]) {
+    gives(&loop_of_two(accesses).encode(), Answer::Accepted { symbols: 3, nodes: 3, steps: 5 });
+}
+
+fn are_tangled(accesses: [[u8; 4]; 2]) {
+    gives(&loop_of_two(accesses).encode(), Refusal::NotParallelizable(0).into());
+}
+
+#[test]
+fn load_names_its_field_in_its_last_byte() {
+    let load = [statement::LOAD, 0, 1, 2];
+    may_stand_together([load, [statement::WRITE, 0, 0, 0]]);
+    may_stand_together([load, [statement::WRITE, 0, 1, 0]]);
+    are_tangled([load, [statement::WRITE, 0, 2, 0]]);
+}
+
+#[test]
+fn read_names_its_field_after_its_variable() {
+    let read = [statement::READ, 1, 2, 0];
+    may_stand_together([read, [statement::WRITE, 0, 0, 0]]);
+    may_stand_together([read, [statement::WRITE, 0, 1, 0]]);
+    are_tangled([read, [statement::WRITE, 0, 2, 0]]);
+}
+
+#[test]
+fn each_field_may_have_its_operator() {
+    let reduce = |field, operator| [statement::REDUCE, 1, field, operator];
+    may_stand_together([reduce(0, 1), reduce(1, 2)]);
+    may_stand_together([reduce(1, 2), reduce(1, 2)]);
+    are_tangled([reduce(1, 1), reduce(1, 2)]);
+}
+
+#[test]
+fn one_field_number_in_two_regions_is_no_conflict() {
+    for [kind, operator] in [[statement::READ, 0], [statement::REDUCE, 3]] {
+        let write = [statement::WRITE, 0, 1, 0];
+        may_stand_together([[kind, 2, 1, operator], write]);
+        are_tangled([[kind, 1, 1, operator], write]);
+    }
+}
+
+#[test]
+fn a_write_must_be_centered_whatever_its_field() {
+    are_tangled([[statement::WRITE, 1, 0, 0], [statement::READ, 0, 1, 0]]);
+}
+
+#[test]
+fn a_reduction_through_a_pointer_needs_disjointness_whatever_its_field() {
+    let mut plan = loop_of_two([[statement::REDUCE, 1, 2, 0], [statement::WRITE, 0, 0, 0]]);
+    plan.steps.remove(1);
+    gives(&plan.encode(), Refusal::UnmetNeed(0).into());
 }

@@ -93,7 +93,8 @@ fn records_are_refused_in_every_section() {
 
 #[test]
 fn plans_meant_to_be_accepted_are() {
-    for judged in run().iter().filter(|judged| judged.case.origin == Origin::Accepted) {
+    let meant = |origin: Origin| matches!(origin, Origin::Accepted | Origin::Apart);
+    for judged in run().iter().filter(|judged| meant(judged.case.origin)) {
         assert!(judged.checked.is_accepted(), "{:?}", judged.checked);
     }
 }
@@ -103,6 +104,39 @@ fn tangled_plans_are_refused_for_their_loop() {
     for judged in run().iter().filter(|judged| judged.case.origin == Origin::Tangled) {
         assert_eq!(judged.checked.number(), 8, "{:?}", judged.checked);
     }
+}
+
+/// How many cases of the run a flawed copy checks otherwise.
+fn checked_otherwise(flaw: Flaw) -> usize {
+    let flawed = Reference::flawed(flaw);
+    run().iter().filter(|judged| flawed.check(&judged.case.plan) != judged.checked).count()
+}
+
+#[test]
+fn flaws_of_fields_are_noticed_often() {
+    let flaws = [
+        Flaw::FieldIgnored,
+        Flaw::LoadFieldIsB,
+        Flaw::FieldsAlone,
+        Flaw::ReductionByRegion,
+        Flaw::UncenteredReadByRegion,
+        Flaw::OnlyLatestAccessRemembered,
+    ];
+    let counts = flaws.map(checked_otherwise);
+    println!("{counts:?}");
+    for (flaw, count) in flaws.into_iter().zip(counts) {
+        assert!(count >= OFTEN, "{flaw:?} is noticed too seldom: {count}");
+    }
+}
+
+#[test]
+fn many_plans_are_accepted_only_by_their_fields() {
+    let by_region = Reference::flawed(Flaw::FieldIgnored);
+    let refused = |judged: &&Judged| !by_region.check(&judged.case.plan).is_accepted();
+    let accepted = run().iter().filter(|judged| judged.checked.is_accepted());
+    let (all, by_fields) = (accepted.clone().count(), accepted.filter(refused).count());
+    println!("{by_fields} of {all} accepted");
+    assert!(by_fields >= all / 20, "{by_fields} of {all}");
 }
 
 #[test]

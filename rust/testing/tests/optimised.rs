@@ -20,6 +20,16 @@ fn everything_near_the_filed_examples_agrees() {
 }
 
 #[test]
+fn every_three_accesses_agree() {
+    OPTIMISED.agrees_on_every_three_accesses();
+}
+
+#[test]
+fn all_targets_are_told_apart() {
+    OPTIMISED.tells_all_targets_apart();
+}
+
+#[test]
 fn the_largest_plans_agree() {
     OPTIMISED.agrees_on_the_largest_plans();
 }

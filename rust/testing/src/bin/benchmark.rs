@@ -7,7 +7,8 @@ use std::hint::black_box;
 use std::time::{Duration, Instant};
 
 use mavisglen::Answer;
-use mavisglen_testing::workload::{filed_example, largest_check, mixed, Mix, Workload};
+use mavisglen_testing::encode::limit;
+use mavisglen_testing::workload::{filed_example, largest_check, longest_loop, mixed, Mix, Workload};
 use mavisglen_testing::{optimised, reference};
 
 /// Time for one pair of versions on one workload.
@@ -50,6 +51,8 @@ fn main() {
     let nodes = growing(&[6, 12, 24, 48].map(|nodes| (nodes, 8, 256)));
     table("Checking, by nodes", &nodes, check_rounds);
     table("Evaluating, by nodes", &nodes, evaluate_rounds);
+    let statements = [8, 16, 32, limit::STATEMENTS].map(longest_loop);
+    table("Checking, by statements of one loop", &statements, check_rounds);
     let pieces = growing(&[1, 2, 4, 8, 16].map(|pieces| (24, pieces, 256)));
     table("Evaluating, by pieces", &pieces, evaluate_rounds);
     let elements = growing(&[32, 64, 128, 256, 512].map(|elements| (24, 8, elements)));
@@ -67,6 +70,7 @@ fn check_workloads() -> Vec<Workload> {
         mixed(Mix::AllInTurn, 16, 4, 128),
         mixed(Mix::AllInTurn, 48, 16, 512),
         largest_check(),
+        longest_loop(limit::STATEMENTS),
     ]
 }
 

@@ -19,6 +19,8 @@ pub enum Origin {
     Incomplete,
     /// A plan right but for a loop that is not parallelizable.
     Tangled,
+    /// An accepted plan with a loop like that, its accesses set apart by region or by field.
+    Apart,
     /// A plan with several things wrong.
     Compound,
     /// Bytes changed anywhere.
@@ -61,7 +63,11 @@ impl Generator {
 
     fn next_case(&mut self) -> Case {
         match self.random.below(20) {
-            0..=6 => self.accepted(),
+            0..=5 => self.accepted(),
+            6 => {
+                let plan = tangled::apart_plan(&mut self.random);
+                self.with_some_data(Origin::Apart, &plan)
+            }
             7..=10 => self.lemma_near_miss(),
             11..=14 => {
                 let plan = miss::altered_plan(&mut self.random);

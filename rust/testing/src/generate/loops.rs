@@ -25,12 +25,22 @@ pub struct Access {
     pub reduces: bool,
 }
 
-/// What a loop may do with a region, so that it stays parallelizable.
+/// What a loop may do with a field of a region, so that it stays parallelizable.
 #[derive(Clone, Copy, Debug)]
 enum Role {
     ReadOnly,
     Centered,
     Reduced { operator: u8 },
+}
+
+impl Role {
+    fn admits_read(self, centered: bool) -> bool {
+        match self {
+            Role::ReadOnly => true,
+            Role::Centered => centered,
+            Role::Reduced { .. } => false,
+        }
+    }
 }
 
 /// A loop under construction; its records go straight into the plan.
@@ -39,18 +49,14 @@ pub struct Loop {
     pub region: u8,
     pub variables: Vec<Variable>,
     pub accesses: Vec<Access>,
-    roles: Vec<Role>,
+    /// By region, then by field.
+    roles: Vec<Vec<Role>>,
 }
 
 impl Loop {
     pub fn open(random: &mut Random, plan: &mut Plan, region: u8) -> Loop {
         plan.statements.push([statement::FOR, region, 0, 0]);
-        let role = |_| match random.below(3) {
-            0 => Role::ReadOnly,
-            1 => Role::Centered,
-            _ => Role::Reduced { operator: random.below(4) as u8 },
-        };
-        let roles = (0..plan.regions.len()).map(role).collect();
+        let roles = plan.regions.iter().map(|&[fields]| some_roles(random, fields)).collect();
         let variable = Variable { region, centered: true, origin: Origin::Iteration };
         Loop { region, variables: vec![variable], accesses: Vec::new(), roles }
     }
@@ -79,16 +85,18 @@ impl Loop {
         let maps = &plan.maps;
         let Some(map) = random.find(maps.len(), |map| maps[map][0] == region) else { return };
         match kind {
-            statement::LOAD if self.admits_read(region, centered) => {
+            statement::LOAD => {
                 let field = some_field(random, plan, region);
-                self.load(plan, map as u8, of, field);
+                if self.role(region, field).admits_read(centered) {
+                    self.load(plan, map as u8, of, field);
+                }
             }
             statement::CALL => self.call(plan, map as u8, of),
             _ => {}
         }
     }
 
-    /// A LOAD, whatever the region's role.
+    /// A LOAD, whatever the field's role.
     pub fn load(&mut self, plan: &mut Plan, map: u8, of: usize, field: u8) {
         plan.statements.push([statement::LOAD, map, of as u8, field]);
         self.accesses.push(Access { variable: of, reduces: false });
@@ -111,17 +119,14 @@ impl Loop {
         self.variables.push(Variable { origin: Origin::Copy { of }, ..self.variables[of] });
     }
 
-    fn admits_read(&self, region: u8, centered: bool) -> bool {
-        match self.roles[usize::from(region)] {
-            Role::ReadOnly => true,
-            Role::Centered => centered,
-            Role::Reduced { .. } => false,
-        }
+    fn role(&self, region: u8, field: u8) -> Role {
+        self.roles[usize::from(region)][usize::from(field)]
     }
 
     fn access(&mut self, random: &mut Random, plan: &mut Plan, variable: usize) {
         let Variable { region, centered, .. } = self.variables[variable];
-        let (kind, operator) = match self.roles[usize::from(region)] {
+        let field = some_field(random, plan, region);
+        let (kind, operator) = match self.role(region, field) {
             Role::ReadOnly => (statement::READ, 0),
             Role::Centered if centered => match random.below(3) {
                 0 => (statement::READ, 0),
@@ -131,11 +136,10 @@ impl Loop {
             Role::Reduced { operator } if !centered => (statement::REDUCE, operator),
             _ => return,
         };
-        let field = some_field(random, plan, region);
         self.push_access(plan, variable, [kind, field, operator]);
     }
 
-    /// A READ, WRITE or REDUCE, whatever the region's role.
+    /// A READ, WRITE or REDUCE, whatever the field's role.
     pub fn push_access(&mut self, plan: &mut Plan, variable: usize, [kind, field, operator]: [u8; 3]) {
         plan.statements.push([kind, variable as u8, field, operator]);
         self.accesses.push(Access { variable, reduces: kind == statement::REDUCE });
@@ -146,8 +150,17 @@ impl Loop {
     }
 }
 
+fn some_roles(random: &mut Random, fields: u8) -> Vec<Role> {
+    let role = |_| match random.below(3) {
+        0 => Role::ReadOnly,
+        1 => Role::Centered,
+        _ => Role::Reduced { operator: random.below(4) as u8 },
+    };
+    (0..fields).map(role).collect()
+}
+
 /// A field of a region, often its last.
-fn some_field(random: &mut Random, plan: &Plan, region: u8) -> u8 {
+pub fn some_field(random: &mut Random, plan: &Plan, region: u8) -> u8 {
     let fields = plan.regions[usize::from(region)][0];
     if random.one_in(2) {
         fields - 1

@@ -15,22 +15,41 @@ pub struct Loops {
     needs_disjoint: u64,
 }
 
-/// The open loop: its variables, and masks of its regions by their accesses.
+/// How the parallelizable rule sees an access, as a bit of a byte: an uncentered REDUCE by its operator, 0 to 3, or
+/// one of these.
+mod class {
+    pub const CENTERED_READ: u8 = 4;
+    pub const UNCENTERED_READ: u8 = 5;
+    pub const CENTERED_CHANGE: u8 = 6;
+    pub const UNCENTERED_WRITE: u8 = 7;
+
+    /// The classes that each class may not share a target with; an uncentered WRITE is refused by its own.
+    pub const CONFLICTS: [u8; 8] = [
+        0b1111_1110,
+        0b1111_1101,
+        0b1111_1011,
+        0b1111_0111,
+        0b1000_1111,
+        0b1100_1111,
+        0b1010_1111,
+        0b1111_1111,
+    ];
+}
+
+/// Fields of all regions: what the parallelizable rule is about.
+const TARGETS: usize = limit::REGIONS * limit::FIELDS;
+
+/// The open loop: its variables, and what it does with each field.
 struct Open {
     record: usize,
     variables: usize,
     regions: [u8; limit::VARIABLES],
     /// One bit for each centered variable.
     centered: u32,
-    uncentered_reduced: u32,
-    /// Any access but an uncentered REDUCE.
-    otherwise_accessed: u32,
-    /// Uncentered REDUCEs of more than one operator.
-    mixed: u32,
-    operators: [u8; limit::REGIONS],
-    uncentered_read: u32,
-    changed: u32,
-    uncentered_write: bool,
+    /// The classes of the accesses so far, by region and field.
+    classes: [u8; TARGETS],
+    tangled: bool,
+    reduces_through_pointer: bool,
 }
 
 impl Open {
@@ -42,13 +61,9 @@ impl Open {
             variables: 1,
             regions,
             centered: 1,
-            uncentered_reduced: 0,
-            otherwise_accessed: 0,
-            mixed: 0,
-            operators: [0; limit::REGIONS],
-            uncentered_read: 0,
-            changed: 0,
-            uncentered_write: false,
+            classes: [0; TARGETS],
+            tangled: false,
+            reduces_through_pointer: false,
         }
     }
 
@@ -71,43 +86,26 @@ impl Open {
         self.centered >> variable & 1 == 1
     }
 
+    /// An access of a class, compared with all before it of the same region and field at once.
     #[inline]
-    fn access(&mut self, kind: u8, variable: u8, region: u8, operator: u8) {
-        let (bit, centered) = (1 << region, self.is_centered(variable));
-        match (kind, centered) {
-            (statement::REDUCE, false) => self.reduce_uncentered(bit, region, operator),
-            (statement::REDUCE, true) => {
-                self.changed |= bit;
-                self.otherwise_accessed |= bit;
-            }
-            (statement::WRITE, _) => {
-                self.changed |= bit;
-                self.otherwise_accessed |= bit;
-                self.uncentered_write |= !centered;
-            }
-            _ => {
-                self.otherwise_accessed |= bit;
-                self.uncentered_read |= u32::from(!centered) << region;
-            }
-        }
+    fn access(&mut self, region: u8, field: u8, class: u8) {
+        let target = usize::from(region) * limit::FIELDS + usize::from(field);
+        let classes = &mut self.classes[target % TARGETS];
+        *classes |= 1 << class;
+        self.tangled |= *classes & class::CONFLICTS[usize::from(class) % 8] != 0;
+        self.reduces_through_pointer |= class < class::CENTERED_READ;
     }
 
+    /// The class of a READ, WRITE or REDUCE.
     #[inline]
-    fn reduce_uncentered(&mut self, bit: u32, region: u8, operator: u8) {
-        let operators = &mut self.operators[usize::from(region) % limit::REGIONS];
-        *operators |= 1 << operator;
-        if operators.count_ones() > 1 {
-            self.mixed |= bit;
+    fn class(&self, kind: u8, variable: u8, operator: u8) -> u8 {
+        match (kind, self.is_centered(variable)) {
+            (statement::REDUCE, false) => operator,
+            (statement::READ, false) => class::UNCENTERED_READ,
+            (statement::READ, true) => class::CENTERED_READ,
+            (_, true) => class::CENTERED_CHANGE,
+            (_, false) => class::UNCENTERED_WRITE,
         }
-        self.uncentered_reduced |= bit;
-        self.changed |= bit;
-    }
-
-    #[inline]
-    fn is_tangled(&self) -> bool {
-        self.uncentered_write
-            | (self.uncentered_reduced & (self.otherwise_accessed | self.mixed) != 0)
-            | (self.uncentered_read & self.changed != 0)
     }
 }
 
@@ -136,10 +134,10 @@ pub fn read(plan: &Plan) -> Result<Loops, Refusal> {
 /// The first tangled loop is kept until all statements are read.
 #[inline]
 fn close(open: &Open, loops: &mut Loops, tangled: &mut Option<usize>) {
-    if tangled.is_none() && open.is_tangled() {
+    if tangled.is_none() && open.tangled {
         *tangled = Some(open.record);
     }
-    loops.needs_disjoint |= u64::from(open.uncentered_reduced != 0) << open.record;
+    loops.needs_disjoint |= u64::from(open.reduces_through_pointer) << open.record;
 }
 
 impl Loops {
@@ -192,7 +190,7 @@ fn read_statement(plan: &Plan, open: &mut Open, record: Record, loops: &mut Loop
             if b >= plan.regions[usize::from(region)] || c > last {
                 return Err(record.invalid());
             }
-            open.access(kind, a, region, c);
+            open.access(region, b, open.class(kind, a, c));
             loops.add_symbol(region);
             Ok(())
         }
@@ -215,7 +213,7 @@ fn read_entry(plan: &Plan, open: &mut Open, record: Record, loops: &mut Loops) -
         return Err(mismatch(4, record.number));
     }
     if loads {
-        open.access(kind, b, region, 0);
+        open.access(region, c, open.class(statement::READ, b, 0));
         loops.add_symbol(region);
     }
     open.define(target, false);

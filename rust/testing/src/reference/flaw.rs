@@ -95,6 +95,12 @@ pub enum Flaw {
     LoadIsNoRead,
     CopyIsUncentered,
     EveryVariableCentered,
+    FieldIgnored,
+    LoadFieldIsB,
+    FieldsAlone,
+    ReductionByRegion,
+    UncenteredReadByRegion,
+    OnlyLatestAccessRemembered,
     LoopsJudgedTogether,
     LoopsJudgedAsTheyClose,
     LoopsJudgedAfterNodes,
@@ -171,7 +177,7 @@ impl Flaw {
     }
 }
 
-const SINGLE: [Flaw; 83] = [
+const SINGLE: [Flaw; 89] = [
     Flaw::AnyEdition,
     Flaw::TrailingBytesAdmitted,
     Flaw::NoRegionAdmitted,
@@ -203,6 +209,12 @@ const SINGLE: [Flaw; 83] = [
     Flaw::LoadIsNoRead,
     Flaw::CopyIsUncentered,
     Flaw::EveryVariableCentered,
+    Flaw::FieldIgnored,
+    Flaw::LoadFieldIsB,
+    Flaw::FieldsAlone,
+    Flaw::ReductionByRegion,
+    Flaw::UncenteredReadByRegion,
+    Flaw::OnlyLatestAccessRemembered,
     Flaw::LoopsJudgedTogether,
     Flaw::LoopsJudgedAsTheyClose,
     Flaw::LoopsJudgedAfterNodes,

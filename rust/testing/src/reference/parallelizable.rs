@@ -1,4 +1,4 @@
-//! Tangled: loops that are not parallelizable.
+//! Tangled: loops that are not parallelizable, their accesses compared two by two.
 #![forbid(unsafe_code)]
 
 use mavisglen::Refusal;
@@ -10,6 +10,7 @@ use super::{require, Reference};
 /// An access as the parallelizable rule sees it.
 struct JudgedAccess {
     region: usize,
+    field: usize,
     centered: bool,
     effect: Effect,
 }
@@ -32,20 +33,35 @@ impl Reference {
     fn is_parallelizable(&self, loops: &[Loop]) -> bool {
         let accesses: Vec<JudgedAccess> = loops.iter().flat_map(|each| self.judged_accesses(each)).collect();
         accesses.iter().enumerate().all(|(index, one)| {
-            let mut others =
-                accesses.iter().enumerate().filter(|&(at, other)| at != index && other.region == one.region);
-            self.write_is_centered(one) && others.all(|(_, other)| self.may_stand_together(one, other))
+            let mut others = (0..accesses.len()).filter(|&other| self.are_compared(&accesses, index, other));
+            self.write_is_centered(one) && others.all(|other| self.may_stand_together(one, &accesses[other]))
         })
+    }
+
+    /// Each access with every other, flaws aside.
+    fn are_compared(&self, accesses: &[JudgedAccess], one: usize, other: usize) -> bool {
+        let hides = |between: &JudgedAccess| self.have_one_target(&accesses[one], between);
+        let hidden = || accesses[one.min(other) + 1..one.max(other)].iter().any(hides);
+        one != other && !(self.has(Flaw::OnlyLatestAccessRemembered) && hidden())
     }
 
     fn judged_accesses(&self, within: &Loop) -> Vec<JudgedAccess> {
         let counts = |access: &&Access| access.effect != Effect::Load || !self.has(Flaw::LoadIsNoRead);
         let judged = |access: &Access| JudgedAccess {
             region: within.variables[access.variable].region,
+            field: self.field_of(access),
             centered: self.counts_as_centered(within, access.variable),
             effect: access.effect,
         };
         within.accesses.iter().filter(counts).map(judged).collect()
+    }
+
+    /// LOAD reads the field it names in c; its b is its variable.
+    fn field_of(&self, access: &Access) -> usize {
+        if access.effect == Effect::Load && self.has(Flaw::LoadFieldIsB) {
+            return access.variable;
+        }
+        access.field
     }
 
     fn counts_as_centered(&self, within: &Loop, variable: usize) -> bool {
@@ -60,9 +76,21 @@ impl Reference {
         access.effect != Effect::Write || access.centered || self.has(Flaw::WriteMayBeUncentered)
     }
 
-    /// Second and third condition, for two accesses of one region.
+    /// A target is a region and a field.
+    fn have_one_target(&self, one: &JudgedAccess, other: &JudgedAccess) -> bool {
+        let flaw = match one.effect {
+            Effect::Reduce { .. } => Flaw::ReductionByRegion,
+            _ => Flaw::UncenteredReadByRegion,
+        };
+        let field_ignored = self.has(Flaw::FieldIgnored) || self.has(flaw);
+        (one.region == other.region || self.has(Flaw::FieldsAlone))
+            && (one.field == other.field || field_ignored)
+    }
+
+    /// Second and third condition, which are about accesses of one target.
     fn may_stand_together(&self, one: &JudgedAccess, other: &JudgedAccess) -> bool {
         match one.effect {
+            _ if !self.have_one_target(one, other) => true,
             Effect::Reduce { operator } if !one.centered => self.may_meet_reduction(operator, other),
             Effect::Load | Effect::Read if !one.centered => self.may_meet_uncentered_read(other),
             _ => true,

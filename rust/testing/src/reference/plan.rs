@@ -49,6 +49,7 @@ pub enum Effect {
 pub struct Access {
     pub symbol: usize,
     pub variable: usize,
+    pub field: usize,
     pub effect: Effect,
 }
 

@@ -47,9 +47,9 @@ impl Reference {
             2 => self.read_call(plan, variables, record, [a, b, c])?,
             _ => self.read_copy(variables, record, [a, b, c])?,
         };
-        // LOAD is also a read of its variable b's region, through b.
+        // LOAD is also a read of its variable b's region, through b, in the field that c names.
         if kind == 1 {
-            self.add_access(plan, b, Effect::Load);
+            self.add_access(plan, b, c, Effect::Load);
         }
         current_loop(plan).variables.push(variable);
         Ok(())
@@ -119,14 +119,14 @@ impl Reference {
             _ => (Effect::Reduce { operator: c }, c <= 3 || self.has(Flaw::OperatorUnjudged)),
         };
         require(last_byte_valid, invalid(4, record))?;
-        self.add_access(plan, variable, effect);
+        self.add_access(plan, variable, field, effect);
         Ok(())
     }
 
-    fn add_access(&self, plan: &mut Plan, variable: usize, effect: Effect) {
+    fn add_access(&self, plan: &mut Plan, variable: usize, field: usize, effect: Effect) {
         let region = current_loop(plan).variables[variable].region;
         let symbol = plan.new_symbol(region);
-        current_loop(plan).accesses.push(Access { symbol, variable, effect });
+        current_loop(plan).accesses.push(Access { symbol, variable, field, effect });
     }
 }
 

@@ -3,11 +3,12 @@
 
 use std::env;
 
-use mavisglen::Answer;
+use mavisglen::{Answer, Refusal};
+use mavisglen_testing::encode::{limit, statement, Plan};
 use mavisglen_testing::filed::{data_d, plan_a, plan_b};
 use mavisglen_testing::generate::{Case, Generator};
 use mavisglen_testing::reference;
-use mavisglen_testing::workload::{filed_example, largest_check, mixed, Mix};
+use mavisglen_testing::workload::{filed_example, largest_check, longest_loop, mixed, Mix};
 
 /// The version that is compared with the reference.
 pub struct Version {
@@ -63,15 +64,99 @@ impl Version {
         }
     }
 
+    /// Every row of three accesses in one loop: a third can undo what is remembered of the first two.
+    pub fn agrees_on_every_three_accesses(&self) {
+        let accesses = accesses();
+        let mut numbers = [0; 16];
+        for (first, second) in pairs(&accesses) {
+            for &third in &accesses {
+                let plan = loop_of(&[first, second, third]).encode();
+                let answer = reference::check(&plan);
+                assert_eq!((self.check)(&plan), answer, "{first:?} {second:?} {third:?}");
+                numbers[usize::from(answer.number())] += 1;
+            }
+        }
+        println!("{} loops are parallelizable, {} are not", numbers[9], numbers[8]);
+        assert!(numbers[8] > 10_000 && numbers[8] + numbers[9] == accesses.len().pow(3));
+    }
+
+    /// A read and a reduction through pointers, each of every field of every region: only where both are of one are
+    /// they refused, and else for the symbols that nothing is assigned to.
+    pub fn tells_all_targets_apart(&self) {
+        let count = limit::REGIONS * limit::FIELDS;
+        for (read, reduced) in (0..count * count).map(|number| (number / count, number % count)) {
+            let plan = loop_of_targets(read, reduced).encode();
+            let refusal =
+                if read == reduced { Refusal::NotParallelizable(0) } else { Refusal::AssignmentCount(3) };
+            let answers = [reference::check(&plan), (self.check)(&plan)];
+            assert_eq!(answers, [Answer::Refused(refusal); 2], "targets {read} and {reduced}");
+        }
+    }
+
     /// The plans that the benchmark measures, in full size.
     pub fn agrees_on_the_largest_plans(&self) {
         let mut workloads: Vec<_> = Mix::ALL.iter().map(|&mix| mixed(mix, 48, 16, 512)).collect();
-        workloads.extend([filed_example(), largest_check()]);
+        workloads.extend([filed_example(), largest_check(), longest_loop(limit::STATEMENTS)]);
         for workload in workloads {
             let comparison = self.compare(&workload.plan, &workload.data, &vec![!0; workload.words + 3]);
             assert!(comparison.evaluated[0].is_accepted(), "{}", workload.name);
             comparison.must_agree(|| workload.name.clone(), &workload.plan, &workload.data);
         }
+    }
+}
+
+/// LOAD, READ, WRITE and REDUCEs of two operators, through each variable and in two fields.
+fn accesses() -> Vec<[u8; 4]> {
+    let mut accesses = Vec::new();
+    for (variable, map) in [(0, 0), (1, 0), (2, 0), (3, 2)] {
+        for field in [0, 1] {
+            accesses.push([statement::LOAD, map, variable, field]);
+            accesses.push([statement::READ, variable, field, 0]);
+            accesses.push([statement::WRITE, variable, field, 0]);
+            accesses.push([statement::REDUCE, variable, field, 0]);
+            accesses.push([statement::REDUCE, variable, field, 1]);
+        }
+    }
+    accesses
+}
+
+fn pairs(accesses: &[[u8; 4]]) -> impl Iterator<Item = ([u8; 4], [u8; 4])> + '_ {
+    accesses.iter().flat_map(|&first| accesses.iter().map(move |&second| (first, second)))
+}
+
+/// A loop over region 0: a copy of its variable, a pointer into the region, one into region 1, and accesses. Nothing
+/// is assigned, so that the plan is refused for that if the loop is parallelizable.
+fn loop_of(accesses: &[[u8; 4]]) -> Plan {
+    let variables = [
+        [statement::FOR, 0, 0, 0],
+        [statement::COPY, 0, 0, 0],
+        [statement::CALL, 0, 0, 0],
+        [statement::CALL, 1, 0, 0],
+    ];
+    Plan {
+        regions: vec![[2], [2]],
+        maps: vec![[0, 0, 1], [0, 1, 1], [1, 0, 1]],
+        statements: [&variables, accesses].concat(),
+        ..Plan::default()
+    }
+}
+
+/// As many regions and fields as there may be, and a loop that reads one field, by its number among all, and reduces
+/// another.
+fn loop_of_targets(read: usize, reduced: usize) -> Plan {
+    let region = |target: usize| (target / limit::FIELDS) as u8;
+    let field = |target: usize| (target % limit::FIELDS) as u8;
+    Plan {
+        regions: vec![[limit::FIELDS as u8]; limit::REGIONS],
+        maps: (0..limit::REGIONS as u8).map(|region| [0, region, 1]).collect(),
+        statements: vec![
+            [statement::FOR, 0, 0, 0],
+            [statement::CALL, region(read), 0, 0],
+            [statement::CALL, region(reduced), 0, 0],
+            [statement::READ, 1, field(read), 0],
+            [statement::REDUCE, 2, field(reduced), 0],
+        ],
+        ..Plan::default()
     }
 }
 

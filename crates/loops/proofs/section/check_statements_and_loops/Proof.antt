@@ -9,10 +9,11 @@ use Rattle.model.specs.Outcomes.{_then_}
 use Rattle.model.specs.Layout.{Plan, statementCount}
 use Rattle.model.specs.Statements.{statementCheck}
 use Rattle.model.specs.declared.Outcome.{Outcome}
-use Rattle.model.proofs.Outcomes.{never}
+use Rattle.model.proofs.Outcomes.{never, scan-pass}
 use Rattle.primitives.proofs.Scanning.{scanning-refused, scanning-end}
 use Rattle.loops.specs.Section.{StatementSources, loopsCheck}
 use Rattle.loops.specs.Statements.{variablesOf, EntryAt}
+use Rattle.loops.proofs.Accesses.{access-limits}
 use Rattle.loops.proofs.StatementLaws.{StatementPass, pass-start, context, pass-next, pass-end}
 use borrow.Author.Needs.{needs}
 use Rattle.loops.proofs.section.check_statements_and_loops.Statement.{statement}
@@ -92,10 +93,15 @@ returns-2 c =
     let pass = out .before .loop .inv .4 P from in
     let end : statementCount P ≤ out .before .loop .s = rw (from .statements-are) (out .loop-test .left) in
     let tables = pass-end P pass end in
+    let passed = scanning-end (pass .scanning) end in
     record {
       outcome =
-          c .check-loops .ensures P (record { section = from .statements-are; tables = tables })
-          ∙ ap (λ (o : Outcome). o then loopsCheck P) (scanning-end (pass .scanning) end);
+          c .check-loops .ensures P (record {
+            section = from .statements-are;
+            tables = tables;
+            limits = λ s lt. access-limits P (from .few-regions) (from .few-fields) s (scan-pass _ _ (sym passed) s lt);
+          })
+          ∙ ap (λ (o : Outcome). o then loopsCheck P) passed;
       tables = λ h. tables;
     }
 

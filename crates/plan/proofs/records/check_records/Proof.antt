@@ -4,7 +4,7 @@ use mathlib.Core.Path.{_≡_, sym, _∙_}
 use Rattle.model.specs.Outcomes.{_then_}
 use Rattle.model.specs.Layout.{Plan, planOf}
 use Rattle.model.specs.Verdict.{recordsCheck}
-use Rattle.loops.specs.Section.{statementsCheck, loopsCheck}
+use Rattle.loops.specs.Section.{statementsCheck, loopsCheck, StatementsChecked}
 use Rattle.expressions.specs.Steps.{stepsCheck}
 use Rattle.plan.specs.Assignments.{assignmentsCheck}
 use Rattle.plan.specs.Needs.{needsCheck}
@@ -23,13 +23,19 @@ passed3 : (m : tie.After-enum-told) → (let P = plan-past3 m in
     recordsCheck P ≡ ((statementsCheck P then loopsCheck P) then nodesCheck P then assignmentsCheck P then stepsCheck P then needsCheck P))
 passed3 m = stage-passed _ (in-stages _) (m .before .before .check-declarations .ensures) (m .enum-told .given .1)
 
+-- section 4 and the loops, after the declarations
+statements-checked : (m : tie.After-check-statements) → StatementsChecked (plan-past3 (m .before)) (m .check-statements .result)
+statements-checked m =
+    let declared = m .before in
+    m .check-statements .ensures (sym (declared .before .before .check-declarations .ensures) ∙ declared .enum-told .given .1)
+
 -- section 4 and the loops passed
 abbrev plan-past4 : tie.After-enum-told2 → Plan
 plan-past4 m = plan-past3 (m .before .before .before)
 
 passed4 : (m : tie.After-enum-told2) → (let P = plan-past4 m in
     recordsCheck P ≡ (nodesCheck P then assignmentsCheck P then stepsCheck P then needsCheck P))
-passed4 m = stage-passed _ (passed3 (m .before .before .before)) (m .before .before .check-statements .ensures .outcome) (m .enum-told2 .given .1)
+passed4 m = stage-passed _ (passed3 (m .before .before .before)) (statements-checked (m .before .before) .outcome) (m .enum-told2 .given .1)
 
 -- section 5 passed
 abbrev plan-past5 : tie.After-enum-told3 → Plan
@@ -49,7 +55,7 @@ assigned : (m : tie.After-check-assignments) → m .check-assignments .result �
 assigned m =
     let nodes = nodes-before m in
     let statements = nodes .before .before .before in
-    m .check-assignments .ensures (assignment-tables (statements .before .before .check-statements .ensures) (statements .enum-told2 .given .1)
+    m .check-assignments .ensures (assignment-tables (statements-checked (statements .before .before)) (statements .enum-told2 .given .1)
     (nodes .before .before .check-nodes .ensures) (nodes .enum-told3 .given .1))
 
 abbrev plan-past6 : tie.After-enum-told4 → Plan
@@ -80,7 +86,7 @@ returns-2 : tie.Need-returns-2
 returns-2 c =
     let checked = c .before .before .before .before in
     records-refused (c .refuse-records2 .ensures)
-    (stage-refused _ (passed3 (checked .before)) (checked .check-statements .ensures .outcome) (c .before .before .statements-outcome .given .1))
+    (stage-refused _ (passed3 (checked .before)) (statements-checked checked .outcome) (c .before .before .statements-outcome .given .1))
 
 returns-3 : tie.Need-returns-3
 returns-3 c =
@@ -112,7 +118,7 @@ returns-6 c =
     let statements = nodes .before .before .before in
     let node-tables = nodes .before .before .check-nodes .ensures in
     let tables =
-    need-tables (statements .before .before .check-statements .ensures) (statements .enum-told2 .given .1) node-tables (nodes .enum-told3 .given .1)
+    need-tables (statements-checked (statements .before .before)) (statements .enum-told2 .given .1) node-tables (nodes .enum-told3 .given .1)
     (steps .before .before .check-steps .ensures .1) (steps .enum-told5 .given .1) in
     record {
       outcome = c .check-needs .ensures tables .outcome ∙ sym (passed7 steps);

@@ -9,15 +9,8 @@ use lib.Bits.{bitAnd, bitOr, and-step, or-step, and-shr, or-shr, shifted-half, s
 use lib.Pow.{shr-shr, shl-shr, pow-pos, shl-exact, field, mod-mod-pow, low, high}
 use Rattle.model.specs.Tests.{Is, _and_, _or_, non, _==_, _<?_}
 use Rattle.model.specs.Words.{bit}
-use Rattle.model.proofs.Tests.{same, same!, less, less! }
+use Rattle.model.proofs.Tests.{same, same!, less, less!, same-truth}
 use Rattle.model.proofs.Words.{bit-first, bit-next, bit-zero}
-
--- two tests that pass together are equal
-pub agree : {a b : Bool} → (Is a → Is b) → (Is b → Is a) → a ≡ b
-agree {a = true} {b = true} f g = refl
-agree {a = true} {b = false} f g = sym (f refl)
-agree {a = false} {b = true} f g = g refl
-agree {a = false} {b = false} f g = refl
 
 -- a test that cannot pass
 pub refute : {a : Bool} → (Is a → ⊥) → a ≡ false
@@ -166,7 +159,7 @@ bit-power (suc m) zero =
 bit-power (suc m) (suc b) =
     let half : 2 ^ suc m / 2 ≡ 2 ^ m = omega (arith, pow-suc 2 m) in
     bit-next (2 ^ suc m) b ∙ ap (λ (x : ℕ). bit x b) half ∙ bit-power m b
-    ∙ agree (λ h. let q = same h in same! (omega arith)) (λ h. let q = same h in same! (omega arith))
+    ∙ same-truth (λ h. let q = same h in same! (omega arith)) (λ h. let q = same h in same! (omega arith))
 
 pub bit-ones : (m b : ℕ) → bit (2 ^ m - 1) b ≡ (b <? m)
 bit-ones zero b = bit-zero b ∙ sym (refute (λ h. let q = less h in omega arith))
@@ -176,7 +169,7 @@ bit-ones (suc m) zero =
 bit-ones (suc m) (suc b) =
     let half : (2 ^ suc m - 1) / 2 ≡ 2 ^ m - 1 = omega (arith, pow-suc 2 m, pow-pos m) in
     bit-next (2 ^ suc m - 1) b ∙ ap (λ (x : ℕ). bit x b) half ∙ bit-ones m b
-    ∙ agree (λ h. let q = less h in less! (omega arith)) (λ h. let q = less h in less! (omega arith))
+    ∙ same-truth (λ h. let q = less h in less! (omega arith)) (λ h. let q = less h in less! (omega arith))
 
 -- what `1 << m` gives
 pub one-shifted : (m : ℕ) → m < 64 → (1 * 2 ^ m) % 2 ^ 64 ≡ 2 ^ m
