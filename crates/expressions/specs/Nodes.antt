@@ -6,9 +6,9 @@ use mathlib.Core.List.{List}
 use lib.ListN.{getD}
 use Rattle.model.specs.Tests.{Is, _and_, _==_, any}
 use Rattle.model.specs.Bytes.{Bytes}
-use Rattle.model.specs.Outcomes.{scan}
 use Rattle.model.specs.Layout.{Plan, nodeCount, nodeKind, nodeA, nodeB, nodeUnused}
 use Rattle.model.specs.Nodes.{nodeFormedBy, nodeRegionBy, nodeRegion, nodeAgreesBy, nodeCheck}
+use Rattle.model.specs.Verdict.{nodesCheck}
 use Rattle.model.specs.declared.NodeKind.{NodeKind}
 use Rattle.model.specs.declared.Outcome.the-variants.{Pass}
 use Rattle.expressions.specs.declared.nodes.Node.{Node}
@@ -84,6 +84,6 @@ pub record NodeChecked (P : Plan) (j : ℕ) (r : CheckedNode) : Type 0 where
 
 -- the outcome of section 5 and, after a pass, the region and the key of each node
 pub record NodesChecked (P : Plan) (r : CheckedNodes) : Type 0 where
-  pub outcome : r .outcome ≡ scan (nodeCheck P) 0 (nodeCount P)
+  pub outcome : r .outcome ≡ nodesCheck P
   pub regions : r .outcome ≡ Pass → (j : ℕ) → j < nodeCount P → getD (r .regions) j 0 ≡ nodeRegion P j
   pub keys : r .outcome ≡ Pass → NodeKeys P (r .keys)

@@ -6,8 +6,8 @@ use lib.ListN.{getD, length}
 use Rattle.model.specs.Tests.{_==_}
 use Rattle.model.specs.Bytes.{Bytes}
 use Rattle.model.specs.Layout.{Plan, stepCount, stepLemma, stepX, stepY, stepP, stepQ}
-use Rattle.model.specs.Outcomes.{scan}
-use Rattle.model.specs.Lemmas.{lemmaRow, concludesSubset, concludesDisjoint, concludesComplete, stepCheck}
+use Rattle.model.specs.Lemmas.{lemmaRow, concludesSubset, concludesDisjoint, concludesComplete}
+use Rattle.model.specs.Verdict.{stepsCheck}
 use Rattle.model.specs.declared.Outcome.{Outcome}
 use Rattle.model.specs.declared.Outcome.the-variants.{Pass}
 use Rattle.model.specs.declared.Conclusion.{Conclusion}
@@ -81,10 +81,6 @@ pub record StepTurn (table : List ℕ) (step : Step) (row : Lemma) (t : ℕ) : T
   pub bytes : StepBytes step
   pub listed : row ≡ lemmaRow (step .lemma)
   pub inside : t < length table
-
--- section 7
-abbrev pub stepsCheck : Plan → Outcome
-stepsCheck P = scan (stepCheck P) 0 (stepCount P)
 
 -- the outcome of section 7 and, after a pass, what each step concludes
 pub record StepsRead (P : Plan) (r : Outcome) (table : List ℕ) : Type 0 where

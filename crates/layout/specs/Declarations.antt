@@ -1,10 +1,7 @@
--- The checks of the sections that declare regions, maps and supplied partitions, and the plans that a reader of these sections speaks of.
+-- The plans that a reader of the sections which declare regions, maps and supplied partitions speaks of.
 use mathlib.Core.Path.{_≡_}
 use Rattle.model.specs.Bytes.{Bytes}
-use Rattle.model.specs.Outcomes.{scan}
-use Rattle.model.specs.Layout.{Plan, regionCount, mapCount, suppliedCount}
-use Rattle.model.specs.Declarations.{regionCheck, mapCheck, suppliedCheck}
-use Rattle.model.specs.declared.Outcome.{Outcome}
+use Rattle.model.specs.Layout.{Plan}
 
 module _ (P : Plan) where
   -- a plan of these regions and maps
@@ -16,12 +13,3 @@ module _ (P : Plan) where
   pub record SuppliedDeclarations (regions supplied : Bytes) : Type 0 where
     pub regions-are : P .regions ≡ regions
     pub supplied-are : P .supplied ≡ supplied
-
-  abbrev pub regionsCheck : Outcome
-  regionsCheck = scan (regionCheck P) 0 (regionCount P)
-
-  abbrev pub mapsCheck : Outcome
-  mapsCheck = scan (mapCheck P) 0 (mapCount P)
-
-  abbrev pub partitionsCheck : Outcome
-  partitionsCheck = scan (suppliedCheck P) 0 (suppliedCount P)

@@ -9,8 +9,9 @@ ghost use mathlib.Core.Path.{_≡_};
 ghost use Prim.Native.Nat.{_<_, _/_};
 ghost use lib.ListN.{length};
 ghost use Rattle.model.specs.Layout.{Plan};
+ghost use Rattle.model.specs.Verdict.{mapsCheck};
 ghost use Rattle.model.specs.Declarations.{mapCheck};
-ghost use Rattle.layout.specs.Declarations.{MapDeclarations, mapsCheck};
+ghost use Rattle.layout.specs.Declarations.{MapDeclarations};
 
 // Whether a map leads from a region to a region and is partial or total.
 fn check_map(regions: &[u8], maps: &[u8], map: usize) -> Outcome

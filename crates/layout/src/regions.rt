@@ -7,8 +7,8 @@ ghost use mathlib.Core.Path.{_≡_};
 ghost use Prim.Native.Nat.{_<_};
 ghost use lib.ListN.{length};
 ghost use Rattle.model.specs.Layout.{Plan};
+ghost use Rattle.model.specs.Verdict.{regionsCheck};
 ghost use Rattle.model.specs.Declarations.{regionCheck};
-ghost use Rattle.layout.specs.Declarations.{regionsCheck};
 
 // Whether a region has 1 to 8 fields.
 fn check_region(regions: &[u8], region: usize) -> Outcome

@@ -8,8 +8,9 @@ ghost use mathlib.Core.Path.{_≡_};
 ghost use Prim.Native.Nat.{_<_, _/_};
 ghost use lib.ListN.{length};
 ghost use Rattle.model.specs.Layout.{Plan};
+ghost use Rattle.model.specs.Verdict.{partitionsCheck};
 ghost use Rattle.model.specs.Declarations.{suppliedCheck};
-ghost use Rattle.layout.specs.Declarations.{SuppliedDeclarations, partitionsCheck};
+ghost use Rattle.layout.specs.Declarations.{SuppliedDeclarations};
 
 // Whether a supplied partition is of a region and its flags are known.
 fn check_partition(regions: &[u8], supplied: &[u8], partition: usize) -> Outcome

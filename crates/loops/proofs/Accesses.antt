@@ -1,5 +1,5 @@
 -- The accesses of loops, read from section 4's bytes and tables. Assumes nothing.
-use Prim.Native.Nat.{ℕ, _+_, _*_, _≤_, _<_}
+use Prim.Native.Nat.{ℕ, _≤_, _<_}
 use mathlib.Core.Path.{_≡_, refl, _∙_}
 use mathlib.Core.List.{List}
 use mathlib.Core.Bool.{Bool, true, false}
@@ -18,16 +18,10 @@ use Rattle.model.specs.declared.StatementKind.the-variants.{For, Load, Call, Co
 use Rattle.model.specs.declared.Outcome.the-variants.{Pass}
 use Rattle.model.proofs.Tests.{falsum, both, less}
 use Rattle.model.proofs.Outcomes.{then-pass, require-pass}
+use Rattle.loops.specs.declared.statements.Statement.{Statement}
+use Rattle.loops.specs.Statements.{StatementAt}
 use Rattle.loops.specs.Parallel.{accessAt, AccessLimits, LoopsKnown, PointersKnown}
 use Rattle.loops.proofs.StatementLaws.{operand-most}
-
-module _ (P : Plan) {statements : Bytes} (section : P .statements ≡ statements) where
-  -- the last two bytes of a statement
-  pub third-byte : (s : ℕ) {b : ℕ} → b ≡ getD statements (s * 4 + 2) 0 → b ≡ statementB P s
-  third-byte s e = rw section e
-
-  pub fourth-byte : (s : ℕ) {c : ℕ} → c ≡ getD statements (s * 4 + 3) 0 → c ≡ statementC P s
-  fourth-byte s e = rw section e
 
 -- what the kind that was read says of opening a loop
 pub opens-of-kind : (P : Plan) (s : ℕ) {k : StatementKind} {b : Bool} → k ≡ kind P s → b ≡ opensLoop k → b ≡ opens P s
@@ -36,25 +30,24 @@ opens-of-kind P s k e = rw (e, k)
 
 module _ (P : Plan) {statements : Bytes} {operands regions : List ℕ} {centers : List Bool}
     (known : LoopsKnown P statements operands regions centers) where
-  pub access-is : (s : ℕ) → s < statementCount P → {access : Access} {k : StatementKind} {o region field operator : ℕ} {z : Bool}
-      → access ≡ accessOf k → k ≡ kind P s → o ≡ getD operands s 0
-      → region ≡ getD regions o 0 → z ≡ getD centers o false → field ≡ fieldBy P k s → operator ≡ statementC P s
-      → record { access = access; region = region; field = field; centered = z; operator = operator } ≡ accessAt P s
-  unfolding accessAt accessField
-  access-is s lt a k o r z g c =
+  pub access-is : {s : ℕ} → s < statementCount P → {r : Statement} → StatementAt P s r → {access : Access} {o region field : ℕ} {z : Bool}
+      → access ≡ accessOf (r .kind) → field ≡ accessField P s → o ≡ getD operands s 0 → region ≡ getD regions o 0 → z ≡ getD centers o false
+      → record { access = access; region = region; field = field; centered = z; operator = r .c } ≡ accessAt P s
+  unfolding accessAt
+  access-is {s} lt is a g o r z =
       let t = known .tables in
       let at : _ ≡ operandDefinition P s = o ∙ t .operands-are .holds s lt in
       let earlier : operandDefinition P s < statementCount P = omega (arith, operand-most P s) in
       rw (
         a,
+        is .kind-is,
         g,
-        k,
         r,
         z,
         at,
         t .regions-are .holds (operandDefinition P s) earlier,
         t .centers-are .holds (operandDefinition P s) earlier,
-        c,
+        is .c-is,
       )
 
 module _ (P : Plan) {statements : Bytes} {operands : List ℕ} {centers : List Bool}

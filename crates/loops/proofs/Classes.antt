@@ -2,7 +2,7 @@
 use Prim.Native.Nat.{ℕ, zero, suc, _+_, _*_, _%_, _^_, _≤_, _<_}
 use mathlib.Core.Path.{_≡_, refl, sym, ap, _∙_}
 use mathlib.Core.List.{List}
-use mathlib.Core.Bool.{Bool, true, false, not, _&&_, _||_}
+use mathlib.Core.Bool.{Bool, true, false, not, _||_}
 use native.Mathlib.Omega.{arith}
 use lib.Bits.{bitAnd, bitOr}
 use lib.ListN.{length, getD, set, length-set}
@@ -22,7 +22,7 @@ use Rattle.loops.specs.Parallel.{targetNumber, class, classBy, clash, co
 -- the rule of a byte, as the checker asks it
 abbrev pub compatibleByte : ℕ → Bool
 compatibleByte classes =
-    eqb (bitAnd classes 242) 0 || eqb (bitAnd classes 252) 0
+    eqb (bitAnd classes 250) 0 || eqb (bitAnd classes 252) 0
     || (eqb classes 16 || eqb classes 32 || eqb classes 64 || eqb classes 128)
 
 alike : Bool → Bool → Bool
@@ -70,16 +70,18 @@ class-few a = by (a .access) (a .centered)
     by Nothing z = omega arith
     by Reads true = omega arith
     by Reads false = omega arith
-    by Writes z = omega arith
+    by Writes true = omega arith
+    by Writes false = omega arith
     by Reduces true = omega arith
     by Reduces false = omega arith
 
--- a reduction through a pointer conflicts with all other classes
+-- a reduction through a pointer shares with no other class
 clash-reduction : (i j : ℕ) → 4 ≤ i → clash i j ≡ non (i == j)
 unfolding clash _and_ _or_
 clash-reduction i j h =
-    let other : (i == 1) ≡ false = refute (λ e. let q = same e in omega arith) in
-    rw (most! h, other) (or-false _)
+    let write : (i == 3) ≡ false = refute (λ e. let q = same e in omega arith) in
+    let read : (i == 1) ≡ false = refute (λ e. let q = same e in omega arith) in
+    rw (most! h, write, read) (or-false _)
 
 other-class : {i j : ℕ} → 4 ≤ i → j < 4 → (i == j) ≡ false
 other-class h k = refute (λ e. let q = same e in omega arith)
@@ -90,7 +92,8 @@ unfolding isWrite isReduce classBy pick _or_ _≤?_
 writes-or-reduces Nothing z p = refl
 writes-or-reduces Reads true p = refl
 writes-or-reduces Reads false p = refl
-writes-or-reduces Writes z p = refl
+writes-or-reduces Writes true p = refl
+writes-or-reduces Writes false p = refl
 writes-or-reduces Reduces true p = refl
 writes-or-reduces Reduces false p = sym (most! {a = 2} {b = 4 + p % 4} (omega arith))
 
@@ -98,23 +101,26 @@ writes-or-reduces Reduces false p = sym (most! {a = 2} {b = 4 + p % 4} (omega ar
 same-reduction : (b : Access) (z : Bool) (o p : ℕ) → o < 4 → (Is (isReduce b) → p < 4)
     → (isReduce b and non z and o == p) ≡ (4 + o % 4 == classBy b z p)
 unfolding isReduce classBy pick _and_ non
+same-reduction Reduces false o p h k =
+    let few = k refl in same-truth (λ e. let q = same e in same! (omega arith)) (λ e. let q = same e in same! (omega arith))
 same-reduction Nothing z o p h k = sym (other-class (omega arith) (omega arith))
 same-reduction Reads true o p h k = sym (other-class (omega arith) (omega arith))
 same-reduction Reads false o p h k = sym (other-class (omega arith) (omega arith))
-same-reduction Writes z o p h k = sym (other-class (omega arith) (omega arith))
+same-reduction Writes true o p h k = sym (other-class (omega arith) (omega arith))
+same-reduction Writes false o p h k = sym (other-class (omega arith) (omega arith))
 same-reduction Reduces true o p h k = sym (other-class (omega arith) (omega arith))
-same-reduction Reduces false o p h k =
-    let few = k refl in same-truth (λ e. let q = same e in same! (omega arith)) (λ e. let q = same e in same! (omega arith))
 
--- the rule of two accesses of one region and field is that of their classes
+-- what two accesses of one region and field may not be is said by their classes
 pub clash-is : (a b : Access) (c d : Bool) (o p : ℕ) → (Is (isReduce a) → o < 4) → (Is (isReduce b) → p < 4)
-    → (isReduce a and non c and non (isReduce b and non d and o == p) or isRead a and non c and (isWrite b or isReduce b))
+    → (isWrite a and non c
+    or isReduce a and non c and non (isReduce b and non d and o == p) or isRead a and non c and (isWrite b or isReduce b))
     ≡ clash (classBy a c o) (classBy b d p)
-unfolding isRead isReduce clash classBy pick _and_ _or_ non _==_ _≤?_
+unfolding isRead isWrite isReduce clash classBy pick _and_ _or_ non _==_ _≤?_
 clash-is Nothing b c d o p h k = refl
 clash-is Reads b true d o p h k = refl
 clash-is Reads b false d o p h k = writes-or-reduces b d p
-clash-is Writes b c d o p h k = refl
+clash-is Writes b true d o p h k = refl
+clash-is Writes b false d o p h k = refl
 clash-is Reduces b true d o p h k = refl
 clash-is Reduces b false d o p h k =
     or-false _ ∙ ap non (same-reduction b d o p (h refl) k) ∙ sym (clash-reduction (4 + o % 4) (classBy b d p) (omega arith))
@@ -137,7 +143,6 @@ module _ (a : LoopAccess) (seen : List ℕ) {target classes : ℕ} (access : Is 
   unfolding entered pick
   entered-is = rw (access, c, t)
 
-  pub admitted-is : target < length seen → {fits write : Bool} → fits ≡ compatible (bitOr (getD seen target 0) classes) → write ≡ isWrite (a .access)
-      → (fits && (not write || a .centered)) ≡ admitted a stored
-  unfolding admitted _and_ _or_ non
-  admitted-is room f w = rw (f, w, access, ← t, getD-set-same {A = ℕ} seen target (bitOr (getD seen target 0) classes) 0 room)
+  pub admitted-is : target < length seen → {fits : Bool} → fits ≡ compatible (bitOr (getD seen target 0) classes) → fits ≡ admitted a stored
+  unfolding admitted _or_ non
+  admitted-is room f = rw (f, access, ← t, getD-set-same {A = ℕ} seen target (bitOr (getD seen target 0) classes) 0 room)

@@ -2,7 +2,7 @@
 -- access is admitted among them. Assumes nothing.
 use Prim.Native.Nat.{ℕ, _+_, _^_, _≤_, _<_}
 use mathlib.Core.Path.{_≡_, refl, sym, ap, _∙_}
-use mathlib.Core.Logic.{inl, inr}
+use mathlib.Core.Logic.{_⊎_, inl, inr}
 use mathlib.Core.List.{List}
 use mathlib.Core.Bool.{Bool, false}
 use native.Mathlib.Decide.{ℕ-discrete}
@@ -16,7 +16,7 @@ use Rattle.model.specs.Words.{bit}
 use Rattle.model.specs.Layout.{Plan, statementCount, statementC}
 use Rattle.model.specs.Statements.{kind, accessOf, accesses, loop, operandDefinition, centered}
 use Rattle.model.specs.Parallel.{reads, writes, reduces, uncentered, accessOfLoop, sameTarget, conflicts, parallelizable}
-use Rattle.model.proofs.Tests.{falsum, both, either, pair, lacks, refuted, fails, same, same!, same-truth, split, implied, implies, latest, some-of, among, every-at, every-of}
+use Rattle.model.proofs.Tests.{falsum, both, either, pair, one, lacks, refuted, fails, same, same!, same-truth, split, implied, implies, some-of, among, every-at, every-of}
 use Rattle.model.proofs.Words.{bit-zero}
 use Rattle.primitives.proofs.Bits.{refute, and-false, or-false, bit-or, bit-power}
 use Rattle.primitives.proofs.Filling.{zeros}
@@ -44,13 +44,26 @@ module _ (P : Plan) where
         pair (same! (omega (arith, S .region-few, S .field-few, T .region-few, T .field-few)))
         (same! (omega (arith, S .region-few, S .field-few, T .region-few, T .field-few))))
 
-    conflict-is : conflicts P s t ≡ (targetAt s == targetAt t and clash (classAt s) (classAt t))
-    unfolding conflicts reads writes reduces uncentered accessAt class
-    conflict-is =
-        rw same-target
-        (ap (λ (b : Bool). targetAt s == targetAt t and b)
-        (clash-is (accessOf (kind P s)) (accessOf (kind P t)) (centered P (operandDefinition P s)) (centered P (operandDefinition P t))
-        (statementC P s) (statementC P t) (S .operator-few) (T .operator-few)))
+    -- what the rule forbids is a clash of classes
+    clash-at : (writes P s and uncentered P s
+        or reduces P s and uncentered P s and non (reduces P t and uncentered P t and statementC P s == statementC P t)
+        or reads P s and uncentered P s and (writes P t or reduces P t))
+        ≡ clash (classAt s) (classAt t)
+    unfolding reads writes reduces uncentered accessAt class
+    clash-at =
+        clash-is (accessOf (kind P s)) (accessOf (kind P t)) (centered P (operandDefinition P s)) (centered P (operandDefinition P t))
+        (statementC P s) (statementC P t) (S .operator-few) (T .operator-few)
+
+    write-clashes : Is (writes P s and uncentered P s) → Is (clash (classAt s) (classAt t))
+    write-clashes w = sym clash-at ∙ one (inl w)
+
+    conflict-clashes : Is (conflicts P s t) → (targetAt s ≡ targetAt t) × Is (clash (classAt s) (classAt t))
+    unfolding conflicts
+    conflict-clashes c = (same (sym same-target ∙ both c .0), sym clash-at ∙ one (inr (both c .1)))
+
+    clashes : targetAt s ≡ targetAt t → Is (clash (classAt s) (classAt t)) → Is (writes P s and uncentered P s) ⊎ Is (conflicts P s t)
+    unfolding conflicts
+    clashes e c = elim (either (clash-at ∙ c)) [ inl w ↦ inl w | inr h ↦ inr (pair (same-target ∙ same! e) h) ]
 
   module _ (f : ℕ) where
     -- access t of the loop is of target x and class i
@@ -65,7 +78,6 @@ module _ (P : Plan) where
       pub room : length seen ≡ 128
       pub classes : (x i : ℕ) → bit (getD seen x 0) i ≡ any s (ofClass x i)
       pub compatible-all : (x : ℕ) → Is (compatible (getD seen x 0))
-      pub centered-writes : (t : ℕ) → t < s → Is (accessOfLoop P f t) → Is (writes P t) → Is (centered P (operandDefinition P t))
 
     not-yet : (t : ℕ) → t < f → Is (accessOfLoop P f t) → ⊥
     unfolding accessOfLoop
@@ -81,7 +93,6 @@ module _ (P : Plan) where
           room = refl;
           classes = λ x i. rw (zeros 128 x) (bit-zero i ∙ sym (none-of f (ofClass x i) (λ t lt. refute (λ h. not-yet t lt (both h .0)))));
           compatible-all = λ x. rw (zeros 128 x) compatible-none;
-          centered-writes = λ t lt h. absurd (not-yet t lt h);
         }
 
     module _ {s : ℕ} {seen : List ℕ} (past : Seen s seen) (here : loop P s ≡ f) where
@@ -146,12 +157,9 @@ module _ (P : Plan) where
           ])
 
       module _ (fits : Is (admitted (accessAt P s) seen′)) where
-        entry-fits : Is (accesses P s) → Is (compatible (getD seen′ (targetAt s) 0)) × (Is (writes P s) → Is (centered P (operandDefinition P s)))
-        unfolding admitted accesses writes accessAt
-        entry-fits a = elim (either fits) [
-          | inl n ↦ absurd (lacks n a)
-          | inr h ↦ (both h .0, implied (both h .1))
-        ]
+        entry-fits : Is (accesses P s) → Is (compatible (getD seen′ (targetAt s) 0))
+        unfolding admitted accesses accessAt
+        entry-fits a = implied fits a
 
         compatible-next : (x : ℕ) → Is (compatible (getD seen′ x 0))
         compatible-next x =
@@ -161,7 +169,7 @@ module _ (P : Plan) where
             ]
           where
             at : Is (accesses P s) → Dec (x ≡ targetAt s) → Is (compatible (getD seen′ x 0))
-            at a (yes e) = rw e (entry-fits a .0)
+            at a (yes e) = rw e (entry-fits a)
             at a (no d) =
                 rw (stored a, getD-set-other {A = ℕ} seen (targetAt s) x (bitOr (getD seen (targetAt s) 0) (2 ^ classAt s)) 0 d) (past .compatible-all x)
 
@@ -171,33 +179,26 @@ module _ (P : Plan) where
               room = entered-length (accessAt P s) seen ∙ past .room;
               classes = classes-next;
               compatible-all = compatible-next;
-              centered-writes = λ t lt h w. elim (latest t s (omega arith)) [
-                | inl e ↦ rw e (entry-fits (elim (split (accesses P s)) [ inl a ↦ a | inr n ↦ absurd (no-access n (rw e at h)) ]) .1 (rw e at w))
-                | inr l ↦ past .centered-writes t l h w
-              ];
             }
 
     -- the loop and its accesses
     module _ (limits : (t : ℕ) → t < statementCount P → Is (accesses P t) → AccessLimits P t) where
-      conflict-in : {t u : ℕ} → t < statementCount P → u < statementCount P → Is (accessOfLoop P f t) → Is (accessOfLoop P f u)
-          → conflicts P t u ≡ (targetAt t == targetAt u and clash (classAt t) (classAt u))
+      within : {t : ℕ} → t < statementCount P → Is (accessOfLoop P f t) → AccessLimits P t
       unfolding accessOfLoop
-      conflict-in {t} {u} lt lu a b = conflict-is (limits t lt (both a .0)) (limits u lu (both b .0))
+      within {t} lt a = limits t lt (both a .0)
 
       -- in a parallelizable loop each access is admitted
       module _ {s : ℕ} {seen : List ℕ} (past : Seen s seen) (here : loop P s ≡ f) (lt : s < statementCount P)
           (good : Is (parallelizable P f)) where
         apart : {t u : ℕ} → t < statementCount P → u < statementCount P → Is (accessOfLoop P f t) → Is (accessOfLoop P f u)
-            → Is (conflicts P t u) → ⊥
+            → targetAt t ≡ targetAt u → Is (clash (classAt t) (classAt u)) → ⊥
         unfolding parallelizable
-        apart lt lu a b c = lacks (implied (every-at _ _ (both (implied (every-at _ _ good _ lt) a) .1) _ lu) b) c
-
-        write-centered : Is (accessOfLoop P f s) → Is (writes P s) → Is (centered P (operandDefinition P s))
-        unfolding parallelizable uncentered
-        write-centered a w = elim (split (centered P (operandDefinition P s))) [
-          | inl z ↦ z
-          | inr n ↦ absurd (lacks (both (implied (every-at _ _ good _ lt) a) .0) (pair w n))
-        ]
+        apart lt lu a b e c =
+            let own = both (implied (every-at _ _ good _ lt) a) in
+            elim (clashes (within lt a) (within lu b) e c) [
+              | inl w ↦ lacks (own .0) w
+              | inr h ↦ lacks (implied (every-at _ _ (own .1) _ lu) b) h
+            ]
 
         no-clash : (x i j : ℕ) → (let classes = getD (entered (accessAt P s) seen) x 0 in
             Is (bit classes i) → Is (bit classes j) → Is (clash i j) → ⊥)
@@ -208,28 +209,31 @@ module _ (P : Plan) where
             let (second, target′, class-second) = parts x j u q in
             let lt-t : t < statementCount P = omega arith in
             let lt-u : u < statementCount P = omega arith in
-            apart lt-t lt-u first second
-            (conflict-in lt-t lt-u first second ∙ pair (same! (target ∙ sym target′)) (rw (class-first, class-second) clashing))
+            apart lt-t lt-u first second (target ∙ sym target′) (rw (class-first, class-second) clashing)
 
         each-admitted : Is (admitted (accessAt P s) (entered (accessAt P s) seen))
-        unfolding admitted accesses writes accessAt
-        each-admitted = implies (λ a. pair (compatible-of _ (λ i j. no-clash (targetAt s) i j)) (implies (write-centered (in-own-loop past here a))))
+        unfolding admitted
+        each-admitted = implies (λ a. compatible-of _ (λ i j. no-clash (targetAt s) i j))
 
       pub not-parallelizable : {s : ℕ} {seen : List ℕ} → Seen s seen → loop P s ≡ f → s < statementCount P
           → admitted (accessAt P s) (entered (accessAt P s) seen) ≡ false → parallelizable P f ≡ false
       not-parallelizable past here lt h = refute (λ good. falsum (sym h ∙ each-admitted past here lt good))
 
       pub seen-end : {s end : ℕ} {seen : List ℕ} → LoopSpan P f end → end ≤ s → Seen s seen → Is (parallelizable P f)
-      unfolding parallelizable uncentered accessOfLoop
+      unfolding parallelizable accessOfLoop
       seen-end {s} {seen = seen} span le past =
           every-of _ _ (λ t lt. implies (λ a. pair
-          (refuted (λ h. lacks (both h .1) (past .centered-writes t (before t lt a) a (both h .0))))
+          (refuted (λ w. alone lt lt a a refl (write-clashes (within lt a) (within lt a) w)))
           (every-of _ _ (λ u lu. implies (λ b. refuted (λ c.
-          let (target, clashing) = both (sym (conflict-in lt lu a b) ∙ c) in
-          apart-of _ (past .compatible-all (targetAt t)) (class-few _) (class-few _) (has t lt a refl) (has u lu b (sym (same target))) clashing))))))
+          let (target, clashing) = conflict-clashes (within lt a) (within lu b) c in alone lt lu a b target clashing))))))
         where
           before : (t : ℕ) → t < statementCount P → Is (accessOfLoop P f t) → t < s
           before t lt a = omega (arith, span .only t lt (same (both a .1)) .1)
 
           has : (t : ℕ) → t < statementCount P → (a : Is (accessOfLoop P f t)) → {x : ℕ} → targetAt t ≡ x → Is (bit (getD seen x 0) (classAt t))
           has t lt a {x} e = past .classes x (classAt t) ∙ among (t, before t lt a, pair a (pair (same! e) (same! refl)))
+
+          alone : {t u : ℕ} → t < statementCount P → u < statementCount P → Is (accessOfLoop P f t) → Is (accessOfLoop P f u)
+              → targetAt t ≡ targetAt u → Is (clash (classAt t) (classAt u)) → ⊥
+          alone {t} {u} lt lu a b e c =
+              apart-of _ (past .compatible-all (targetAt t)) (class-few _) (class-few _) (has t lt a refl) (has u lu b (sym e)) c

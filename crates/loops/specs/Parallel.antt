@@ -9,7 +9,7 @@ use Rattle.model.specs.Tests.{Is, _and_, _or_, non, _==_, _≤?_, every, pick}
 use Rattle.model.specs.Bytes.{Bytes}
 use Rattle.model.specs.Layout.{Plan, statementCount, statementC}
 use Rattle.model.specs.Statements.{kind, accessOf, isAccess, accesses, loop, operandDefinition, operandRegion, accessField, centered}
-use Rattle.model.specs.Parallel.{isWrite, reduces, uncentered, accessOfLoop}
+use Rattle.model.specs.Parallel.{reduces, uncentered, accessOfLoop}
 use Rattle.model.specs.Words.{bit}
 use Rattle.model.specs.declared.Access.{Access}
 use Rattle.model.specs.declared.Access.the-variants.{Nothing, Reads, Writes, Reduces}
@@ -54,21 +54,21 @@ pub record LoopSpan (P : Plan) (f end : ℕ) : Type 0 where
 unfoldable pub targetNumber : LoopAccess → ℕ
 targetNumber a = a .region % 16 * 8 + a .field % 8
 
--- the class of an access: 0 a centered read, 1 another read, 2 a write, 3 a centered reduction, 4 to 7 another reduction, by operator
+-- the class of an access: 0 a centered read, 1 another read, 2 a centered write or reduction, 3 another write, 4 to 7 another reduction, by operator
 unfoldable pub classBy : Access → Bool → ℕ → ℕ
 classBy Nothing centered operator = 0
 classBy Reads centered operator = pick centered 0 1
-classBy Writes centered operator = 2
-classBy Reduces centered operator = pick centered 3 (4 + operator % 4)
+classBy Writes centered operator = pick centered 2 3
+classBy Reduces centered operator = pick centered 2 (4 + operator % 4)
 
 unfoldable pub class : LoopAccess → ℕ
 class a = classBy (a .access) (a .centered) (a .operator)
 
--- an access of class i conflicts with one of class j of the same region and field
+-- an access of class i cannot share its region and field with one of class j; a write that is not centered not even with itself
 unfoldable pub clash : ℕ → ℕ → Bool
-clash i j = 4 ≤? i and non (i == j) or i == 1 and 2 ≤? j
+clash i j = i == 3 or 4 ≤? i and non (i == j) or i == 1 and 2 ≤? j
 
--- no two of the classes whose bits a byte has conflict
+-- the classes whose bits a byte has can share a region and field
 unfoldable pub compatible : ℕ → Bool
 compatible classes = every 8 (λ i. every 8 (λ j. non (bit classes i and bit classes j and clash i j)))
 
@@ -77,10 +77,9 @@ unfoldable pub entered : LoopAccess → List ℕ → List ℕ
 entered a seen =
     pick (isAccess (a .access)) (set seen (targetNumber a) (bitOr (getD seen (targetNumber a) 0) (2 ^ class a))) seen
 
--- an access, entered among those that were seen, conflicts with none, and is centered if it is a write
+-- an access, entered among those that were seen, can share its region and field with all of them
 unfoldable pub admitted : LoopAccess → List ℕ → Bool
-admitted a seen =
-    non (isAccess (a .access)) or compatible (getD seen (targetNumber a) 0) and (non (isWrite (a .access)) or a .centered)
+admitted a seen = non (isAccess (a .access)) or compatible (getD seen (targetNumber a) 0)
 
 -- a plan of these statements, of whose variables the tables hold the values
 pub record PointersKnown (P : Plan) (statements : Bytes) (operands : List ℕ) (centers : List Bool) : Type 0 where

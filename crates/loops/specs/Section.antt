@@ -2,11 +2,9 @@
 use Prim.Native.Nat.{ℕ, _≤_, _<_}
 use mathlib.Core.Path.{_≡_}
 use Rattle.model.specs.Bytes.{Bytes}
-use Rattle.model.specs.Outcomes.{_then_, scan}
+use Rattle.model.specs.Outcomes.{_then_}
 use Rattle.model.specs.Layout.{Plan, regionCount, fields, statementCount}
-use Rattle.model.specs.Statements.{statementCheck}
-use Rattle.model.specs.Parallel.{loopCheck}
-use Rattle.model.specs.declared.Outcome.{Outcome}
+use Rattle.model.specs.Verdict.{statementsCheck, loopsCheck}
 use Rattle.model.specs.declared.Outcome.the-variants.{Pass}
 use Rattle.loops.specs.declared.section.CheckedStatements.{CheckedStatements}
 use Rattle.loops.specs.Tables.{StatementTables}
@@ -20,13 +18,7 @@ module _ (P : Plan) where
     pub few-regions : regionCount P ≤ 16
     pub few-fields : (r : ℕ) → r < regionCount P → fields P r ≤ 8
 
-  abbrev pub statementsCheck : Outcome
-  statementsCheck = scan (statementCheck P) 0 (statementCount P)
-
-  abbrev pub loopsCheck : Outcome
-  loopsCheck = scan (loopCheck P) 0 (statementCount P)
-
   -- the outcome of section 4 and its loops and, after a pass, the tables of the statements
   pub record StatementsChecked (r : CheckedStatements) : Type 0 where
-    pub outcome : r .outcome ≡ (statementsCheck then loopsCheck)
+    pub outcome : r .outcome ≡ (statementsCheck P then loopsCheck P)
     pub tables : r .outcome ≡ Pass → StatementTables P (statementCount P) (r .operands) (r .«variable_regions») (r .centered)

@@ -2,10 +2,8 @@
 use model::Access;
 use model::StatementKind;
 ghost use mathlib.Core.Path.{_≡_};
-ghost use Prim.Native.Nat.{ℕ};
-ghost use Rattle.model.specs.Layout.{Plan, statementB, statementC};
-ghost use Rattle.model.specs.Statements.{kindOf, opensLoop, definesVariable, accessOf, isAccess, fieldBy};
-ghost use Rattle.model.specs.Parallel.{isWrite, isReduce};
+ghost use Rattle.model.specs.Statements.{kindOf, opensLoop, definesVariable, accessOf, isAccess};
+ghost use Rattle.model.specs.Parallel.{isReduce};
 
 // The kind that a statement's first byte stands for.
 pub fn kind_of(byte: usize) -> StatementKind
@@ -71,22 +69,6 @@ pub fn access_of(kind: StatementKind) -> Access
     }
 }
 
-// The field that an access names, from the last two bytes of its statement: a LOAD has it in the last one.
-pub fn field_of(kind: StatementKind, b: usize, c: usize) -> usize
-    ensures { λ r. ⌜ ((P : Plan) (s : ℕ) → b ≡ statementB P s → c ≡ statementC P s → r ≡ fieldBy P kind s) ⌝ }
-{
-    match kind {
-        StatementKind::For => 0,
-        StatementKind::Load => c,
-        StatementKind::Call => 0,
-        StatementKind::Copy => 0,
-        StatementKind::Read => b,
-        StatementKind::Write => b,
-        StatementKind::Reduce => b,
-        StatementKind::Unknown => 0,
-    }
-}
-
 // Whether there is an access.
 pub fn is_access(access: Access) -> bool
     ensures { λ r. ⌜ r ≡ isAccess access ⌝ }
@@ -96,18 +78,6 @@ pub fn is_access(access: Access) -> bool
         Access::Reads => true,
         Access::Writes => true,
         Access::Reduces => true,
-    }
-}
-
-// Whether the access is a write.
-pub fn is_write(access: Access) -> bool
-    ensures { λ r. ⌜ r ≡ isWrite access ⌝ }
-{
-    match access {
-        Access::Nothing => false,
-        Access::Reads => false,
-        Access::Writes => true,
-        Access::Reduces => false,
     }
 }
 

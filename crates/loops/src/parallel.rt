@@ -1,34 +1,35 @@
 // Which loops can run in parallel, by the classes of accesses that each region and field has in a loop.
 use crate::kinds::access_of;
-use crate::kinds::field_of;
 use crate::kinds::is_access;
 use crate::kinds::is_reduce;
-use crate::kinds::is_write;
 use crate::kinds::opens_loop;
+use crate::statements::field_of;
 use crate::statements::kind_at;
+use crate::statements::statement_at;
 use model::Access;
 use model::Outcome;
 use model::Refusal;
 use primitives::bytes::byte_at;
+use primitives::bytes::usize_of;
 use primitives::lookup::flag_at;
 use primitives::outcomes::require;
 ghost use mathlib.Core.Path.{_≡_};
 ghost use Prim.Native.Nat.{_/_, _^_, _<_, _≤_};
 ghost use lib.ListN.{length};
 ghost use Rattle.model.specs.Tests.{Is};
-ghost use Rattle.model.specs.Outcomes.{scan};
 ghost use Rattle.model.specs.Layout.{Plan, statementCount};
 ghost use Rattle.model.specs.Statements.{opens, loop};
 ghost use Rattle.model.specs.Parallel.{parallelizable, loopCheck, reducesThroughPointer};
+ghost use Rattle.model.specs.Verdict.{loopsCheck};
 ghost use Rattle.loops.specs.Parallel.{Within, accessAt, LoopsKnown, LoopSpan, targetNumber, class, compatible, entered, admitted, PointersKnown, pointerReduction};
 
 // What a statement accesses: how, which region and field, through a centered variable or not, and with which operator.
 pub struct LoopAccess {
     pub access: Access,
     pub region: usize,
-    pub field: usize,
+    pub field: u8,
     pub centered: bool,
-    pub operator: usize,
+    pub operator: u8,
 }
 
 // The statements of a loop: from its FOR to before `end`.
@@ -45,23 +46,22 @@ fn loop_access(
     centered: &[bool],
     s: usize,
 ) -> LoopAccess
-    requires { ⌜ s < 64 ⌝ }
-    ensures { λ r. ⌜ ((P : Plan) → LoopsKnown P (now (statements .entry)) (now (operands .entry)) (now («variable_regions» .entry)) (now (centered .entry)) → s < statementCount P → r ≡ accessAt P s) ⌝ }
+    requires { ⌜ Within (now statements) s ⌝ }
+    ensures { λ r. ⌜ ((P : Plan) → LoopsKnown P (now (statements .entry)) (now (operands .entry)) (now («variable_regions» .entry)) (now (centered .entry)) → r ≡ accessAt P s) ⌝ }
 {
-    let operand = byte_at(operands, s);
-    let kind = kind_at(statements, s);
+    let statement = statement_at(statements, s);
+    let kind = statement.kind;
     let access = access_of(kind);
+    let field = field_of(statement);
+    let operand = byte_at(operands, s);
     let region = byte_at(variable_regions, operand);
     let through_centered = flag_at(centered, operand);
-    let b = byte_at(statements, s * 4 + 2);
-    let c = byte_at(statements, s * 4 + 3);
-    let field = field_of(kind, b, c);
     LoopAccess {
         access,
         region,
         field,
         centered: through_centered,
-        operator: c,
+        operator: statement.c,
     }
 }
 
@@ -70,11 +70,11 @@ fn loop_access(
 fn target_number(a: LoopAccess) -> usize
     ensures { λ r. ⌜ (r ≡ targetNumber a) × (r < 128) ⌝ }
 {
-    a.region % 16 * 8 + a.field % 8
+    a.region % 16 * 8 + usize_of(a.field % 8)
 }
 
-// The class of an access, as one bit of a byte. From the lowest: a centered read, another read, a write, a centered
-// reduction, another reduction by each of the operators.
+// The class of an access, as one bit of a byte. From the lowest: a centered read, another read, a centered write or
+// reduction, another write, another reduction by each of the operators.
 fn class_bit(a: LoopAccess) -> u8
     ensures { λ r. ⌜ r ≡ 2 ^ class a ⌝ }
 {
@@ -82,17 +82,17 @@ fn class_bit(a: LoopAccess) -> u8
     match access {
         Access::Nothing => 1,
         Access::Reads => if a.centered { 1 } else { 2 },
-        Access::Writes => 4,
+        Access::Writes => if a.centered { 4 } else { 8 },
         Access::Reduces => if a.centered {
-            8
+            4
         } else {
             16 << (a.operator % 4)
         },
     }
 }
 
-// Reads and reductions through pointers.
-const THROUGH_POINTERS: u8 = 0xF2;
+// Accesses through pointers.
+const THROUGH_POINTERS: u8 = 0xFA;
 
 // Writes and reductions.
 const CHANGES: u8 = 0xFC;
@@ -118,13 +118,13 @@ fn enter_access(seen: &mut [u8; 128], a: LoopAccess) -> bool
     let target = target_number(a);
     let classes = seen[target] | class_bit(a);
     seen[target] = classes;
-    is_compatible(classes) & (!is_write(access) | a.centered)
+    is_compatible(classes)
 }
 
 // Where the loop that statement f opens ends: at the next statement that opens a loop, or past the last.
 fn loop_end(statements: &[u8], f: usize) -> usize
     requires { ⌜ Within (now statements) f ⌝ }
-    ensures { λ r. ⌜ (r ≤ 64) × ((P : Plan) → P .statements ≡ now (statements .entry) → Is (opens P f) → LoopSpan P f r) ⌝ }
+    ensures { λ r. ⌜ (r ≤ length (now (statements .entry)) / 4) × ((P : Plan) → P .statements ≡ now (statements .entry) → Is (opens P f) → LoopSpan P f r) ⌝ }
 {
     let mut t = f + 1;
     while t < statements.len() / 4 {
@@ -144,7 +144,7 @@ fn is_parallelizable(
     centered: &[bool],
     range: LoopRange,
 ) -> bool
-    requires { ⌜ range .end ≤ 64 ⌝ }
+    requires { ⌜ (range .end ≤ length (now statements) / 4) × (length (now statements) / 4 ≤ 64) ⌝ }
     ensures { λ r. ⌜ ((P : Plan) → LoopsKnown P (now (statements .entry)) (now (operands .entry)) (now («variable_regions» .entry)) (now (centered .entry)) → LoopSpan P (range .first) (range .end) → r ≡ parallelizable P (range .first)) ⌝ }
 {
     let end = range.end;
@@ -189,7 +189,7 @@ pub fn check_loops(
     centered: &[bool],
 ) -> Outcome
     requires { ⌜ length (now statements) / 4 ≤ 64 ⌝ }
-    ensures { λ r. ⌜ ((P : Plan) → LoopsKnown P (now (statements .entry)) (now (operands .entry)) (now («variable_regions» .entry)) (now (centered .entry)) → r ≡ scan (loopCheck P) 0 (statementCount P)) ⌝ }
+    ensures { λ r. ⌜ ((P : Plan) → LoopsKnown P (now (statements .entry)) (now (operands .entry)) (now («variable_regions» .entry)) (now (centered .entry)) → r ≡ loopsCheck P) ⌝ }
 {
     let mut f = 0;
     while f < statements.len() / 4 {

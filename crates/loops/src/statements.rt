@@ -17,7 +17,7 @@ ghost use mathlib.Core.Path.{_≡_};
 ghost use Prim.Native.Nat.{ℕ, _/_, _<_};
 ghost use lib.ListN.{length};
 ghost use Rattle.model.specs.Layout.{Plan};
-ghost use Rattle.model.specs.Statements.{kind, operand, operandRegion, regionBy, centeredBy, statementFormed, statementAgrees, statementCheck};
+ghost use Rattle.model.specs.Statements.{kind, operand, accessField, operandRegion, regionBy, centeredBy, statementFormed, statementAgrees, statementCheck};
 ghost use Rattle.loops.specs.Statements.{StatementAt, StatementContext, EarlierStatements, EntryAt, variablesOf, variablesAfter};
 
 // A record of section 4.
@@ -69,6 +69,23 @@ fn operand_of(statement: Statement) -> u8
         StatementKind::Read => statement.a,
         StatementKind::Write => statement.a,
         StatementKind::Reduce => statement.a,
+        StatementKind::Unknown => 0,
+    }
+}
+
+// The field that a statement names, if it is an access: LOAD names it last, the others before that.
+pub fn field_of(statement: Statement) -> u8
+    ensures { λ r. ⌜ ((P : Plan) (s : ℕ) → StatementAt P s statement → r ≡ accessField P s) ⌝ }
+{
+    let kind = statement.kind;
+    match kind {
+        StatementKind::For => 0,
+        StatementKind::Load => statement.c,
+        StatementKind::Call => 0,
+        StatementKind::Copy => 0,
+        StatementKind::Read => statement.b,
+        StatementKind::Write => statement.b,
+        StatementKind::Reduce => statement.b,
         StatementKind::Unknown => 0,
     }
 }

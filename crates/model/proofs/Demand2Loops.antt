@@ -7,7 +7,7 @@ use mathlib.Core.Bool.{Bool}
 use native.Mathlib.Omega.{arith}
 use Rattle.model.specs.Tests.{Is, non, _or_, _<?_, _==_}
 use Rattle.model.specs.Bytes.{Bytes}
-use Rattle.model.specs.Outcomes.{require, _then_, scan}
+use Rattle.model.specs.Outcomes.{require, _then_}
 use Rattle.model.specs.Layout.{Plan, planOf, statementCount, nodeCount, assignmentCount, stepCount, statementKind, nodeKind, nodeA, nodeB, nodeUnused, assigned}
 use Rattle.model.specs.Statements.{opens, statementFormed, statementAgrees, statementCheck}
 use Rattle.model.specs.Parallel.{parallelizable, loopCheck}
@@ -16,6 +16,7 @@ use Rattle.model.specs.Needs.{hasSymbol, symbol, symbolNode, symbolRegio
 use Rattle.model.specs.LoopRelations.{HasSymbol, SymbolsBefore, SymbolRegion, NodeRegion}
 use Rattle.model.specs.PlainPlan.{StatementFormed, StatementAgrees, ParallelizableLoop, NodeFormed, supplied-formed, equal-formed, operands-formed, map-formed, SameNode, StepFormed, NeedsConcluded}
 use Rattle.model.specs.GivenWhen.{RecordInvalid, RegionsDisagree, invalid-record, region-mismatch, not-parallelizable, assignment-count, unmet-need}
+use Rattle.model.specs.Verdict.{statementsCheck, loopsCheck, assignmentsCheck, needsCheck}
 use Rattle.model.specs.declared.Refusal.{Refusal}
 use Rattle.model.specs.declared.Outcome.the-variants.{Pass, Refuse}
 use Rattle.model.proofs.Tests.{pair, one, lacks, split, implied, implies, same, same!, less, less! }
@@ -73,17 +74,17 @@ module _ (P : Plan) where
   pub all-formed : StatementsRead → FormedBefore P (statementCount P)
   all-formed R s lt = formed-computed P (R s lt .0)
 
-  pub statements-pass : (scan (statementCheck P) 0 (statementCount P) ≡ Pass) ↔ StatementsRead
+  pub statements-pass : (statementsCheck P ≡ Pass) ↔ StatementsRead
   statements-pass = (plainly, tested)
     where
-      plainly : scan (statementCheck P) 0 (statementCount P) ≡ Pass → StatementsRead
+      plainly : statementsCheck P ≡ Pass → StatementsRead
       plainly h s lt =
           let F : FormedBefore P (statementCount P) = λ t l. statement-passes t .0 (scan-pass _ _ h t l) .0 in (
             statement-formed P s (λ t l. F t (omega arith)) .0 (F s lt),
             statement-agrees P s (λ t l. F t (omega arith)) .0 (statement-passes s .0 (scan-pass _ _ h s lt) .1),
           )
 
-      tested : StatementsRead → scan (statementCheck P) 0 (statementCount P) ≡ Pass
+      tested : StatementsRead → statementsCheck P ≡ Pass
       tested R =
           passes-scan _ _ (λ s lt.
           statement-passes s .1 (all-formed R s lt, statement-agrees P s (λ t l. all-formed R t (omega arith)) .1 (R s lt .1)))
@@ -92,7 +93,7 @@ module _ (P : Plan) where
   abbrev pub LoopsParallelizable : Type 0
   LoopsParallelizable = (f : ℕ) → f < statementCount P → statementKind P f ≡ 0 → ParallelizableLoop P f
 
-  pub loops-pass : StatementsRead → (scan (loopCheck P) 0 (statementCount P) ≡ Pass) ↔ LoopsParallelizable
+  pub loops-pass : StatementsRead → (loopsCheck P ≡ Pass) ↔ LoopsParallelizable
   loops-pass R =
       scan-agrees (loopCheck P) (λ f. statementKind P f ≡ 0 → ParallelizableLoop P f) (statementCount P) (λ f lt. (
         λ h e. loop-parallelizable P (all-formed R) f .0 (implied (loop-passes f .0 h) (opens-is P f .1 e)),
@@ -126,13 +127,13 @@ module _ (P : Plan) where
             (same (implied (t .1) (has-symbol P s .1 y)) ∙ symbol-region P (upto R lt) y .1 q),
       )
 
-  pub assignments-pass : StatementsRead → NodesRead P → (scan (assignmentCheck P) 0 (statementCount P) ≡ Pass) ↔ AssignmentsRead
+  pub assignments-pass : StatementsRead → NodesRead P → (assignmentsCheck P ≡ Pass) ↔ AssignmentsRead
   assignments-pass R N = (plainly, tested)
     where
-      plainly : scan (assignmentCheck P) 0 (statementCount P) ≡ Pass → AssignmentsRead
+      plainly : assignmentsCheck P ≡ Pass → AssignmentsRead
       plainly h s k lt y w = rw (symbol-computed P w) at (assignment-read R N s lt y (scan-pass _ _ h s lt))
 
-      tested : AssignmentsRead → scan (assignmentCheck P) 0 (statementCount P) ≡ Pass
+      tested : AssignmentsRead → assignmentsCheck P ≡ Pass
       tested A =
           passes-scan _ _ (λ s lt. assignment-passes s .1 (
             implies (λ y. less! (A s (symbol P s) lt (has-symbol P s .0 y) (symbols-before P s) .0)),
@@ -195,13 +196,13 @@ module _ (P : Plan) where
     pub need-agrees : (s : ℕ) → s < statementCount P → Is (needsMet P s) ↔ NeedsConcluded P s
     need-agrees = needs-concluded P (all-formed R) (nodes-listed N A) (conclusions-agree T)
 
-    pub needs-pass : (scan (needCheck P) 0 (statementCount P) ≡ Pass) ↔ NeedsMet
+    pub needs-pass : (needsCheck P ≡ Pass) ↔ NeedsMet
     needs-pass =
         scan-agrees (needCheck P) (NeedsConcluded P) (statementCount P) (λ s lt. Iff·trans (need-passes s) (need-agrees s lt))
 
 -- where a check refuses
 module _ (p : Bytes) (r : Refusal) where
-  pub statements-refuse : scan (statementCheck (planOf p)) 0 (statementCount (planOf p)) ≡ Refuse r → PlanGiven p r
+  pub statements-refuse : statementsCheck (planOf p) ≡ Refuse r → PlanGiven p r
   unfolding statementCheck
   statements-refuse h =
       let w = scan-refuse _ _ r h in
@@ -215,7 +216,7 @@ module _ (p : Bytes) (r : Refusal) where
       lacks (f .0) (statement-agrees (planOf p) (w .at) (formed-next (planOf p) F (require-pass _ _ formed)) .1 q)))))
 
   pub loops-refuse :
-      StatementsRead (planOf p) → scan (loopCheck (planOf p)) 0 (statementCount (planOf p)) ≡ Refuse r → PlanGiven p r
+      StatementsRead (planOf p) → loopsCheck (planOf p) ≡ Refuse r → PlanGiven p r
   unfolding loopCheck
   loops-refuse R h =
       let w = scan-refuse _ _ r h in
@@ -232,7 +233,7 @@ module _ (p : Bytes) (r : Refusal) where
       rw (← f .1) (assignment-count refl (symbols-before (planOf p) (statementCount (planOf p))) (λ e. lacks (f .0) (same! e)))
 
   pub assignments-refuse :
-      StatementsRead (planOf p) → scan (assignmentCheck (planOf p)) 0 (statementCount (planOf p)) ≡ Refuse r →
+      StatementsRead (planOf p) → assignmentsCheck (planOf p) ≡ Refuse r →
       PlanGiven p r
   unfolding assignmentCheck
   assignments-refuse R h =
@@ -255,7 +256,7 @@ module _ (p : Bytes) (r : Refusal) where
   pub needs-refuse :
       StatementsRead (planOf p) → NodesRead (planOf p) → AssignmentsRead (planOf p) →
       ((t : ℕ) → t < stepCount (planOf p) → StepFormed (planOf p) t) →
-      scan (needCheck (planOf p)) 0 (statementCount (planOf p)) ≡ Refuse r → PlanGiven p r
+      needsCheck (planOf p) ≡ Refuse r → PlanGiven p r
   unfolding needCheck
   needs-refuse R N A T h =
       let w = scan-refuse _ _ r h in

@@ -18,7 +18,7 @@ use Rattle.model.specs.Parallel.{loopCheck}
 use Rattle.model.specs.Nodes.{nodeCheck}
 use Rattle.model.specs.Needs.{hasSymbol, symbol, symbolNode, assignmentCountCheck, assignmentCheck, needCheck}
 use Rattle.model.specs.Lemmas.{stepCheck}
-use Rattle.model.specs.Verdict.{recordsCheck, planCheck}
+use Rattle.model.specs.Verdict.{regionsCheck, mapsCheck, partitionsCheck, statementsCheck, loopsCheck, nodesCheck, assignmentsCheck, stepsCheck, needsCheck, recordsCheck, planCheck}
 use Rattle.model.specs.AcceptedPlans.{Limits}
 use Rattle.model.specs.DataSets.{dataOf, size, wellFramed, entriesCheck, declarationsHold, dataCheck}
 use Rattle.model.specs.LoopRelations.{HasSymbol, SymbolsBefore, SymbolRegion, NodeRegion}
@@ -149,16 +149,16 @@ module _ (p d : Bytes) (lent : ℕ) where
       ∷ stageOf 2 0 (require (byte p 0 == 1) UnknownEdition)
       ∷ stageOf 1 1 (scan (sectionCheck p) 0 7)
       ∷ stageOf 3 0 (require (length p ≤? boundary p 7) (TrailingBytes (boundary p 7)))
-      ∷ stageOf 5 (1 * 256) (scan (regionCheck (planOf p)) 0 (regionCount (planOf p)))
-      ∷ stageOf 5 (2 * 256) (scan (mapCheck (planOf p)) 0 (mapCount (planOf p)))
-      ∷ stageOf 5 (3 * 256) (scan (suppliedCheck (planOf p)) 0 (suppliedCount (planOf p)))
-      ∷ stageOf 5 (4 * 256) (scan (statementCheck (planOf p)) 0 (statementCount (planOf p)))
-      ∷ stageOf 8 0 (scan (loopCheck (planOf p)) 0 (statementCount (planOf p)))
-      ∷ stageOf 5 (5 * 256) (scan (nodeCheck (planOf p)) 0 (nodeCount (planOf p)))
+      ∷ stageOf 5 (1 * 256) (regionsCheck (planOf p))
+      ∷ stageOf 5 (2 * 256) (mapsCheck (planOf p))
+      ∷ stageOf 5 (3 * 256) (partitionsCheck (planOf p))
+      ∷ stageOf 5 (4 * 256) (statementsCheck (planOf p))
+      ∷ stageOf 8 0 (loopsCheck (planOf p))
+      ∷ stageOf 5 (5 * 256) (nodesCheck (planOf p))
       ∷ stageOf 9 0 (assignmentCountCheck (planOf p))
-      ∷ stageOf 5 (6 * 256) (scan (assignmentCheck (planOf p)) 0 (statementCount (planOf p)))
-      ∷ stageOf 5 (7 * 256) (scan (stepCheck (planOf p)) 0 (stepCount (planOf p)))
-      ∷ stageOf 11 0 (scan (needCheck (planOf p)) 0 (statementCount (planOf p)))
+      ∷ stageOf 5 (6 * 256) (assignmentsCheck (planOf p))
+      ∷ stageOf 5 (7 * 256) (stepsCheck (planOf p))
+      ∷ stageOf 11 0 (needsCheck (planOf p))
       ∷ stageOf 12 0 (require (wellFramed (planOf p) d) InvalidData)
       ∷ stageOf 13 0 (scan (entriesCheck (planOf p) (dataOf d)) 0 (mapCount (planOf p)))
       ∷ stageOf 14 0 (scan (λ k. require (declarationsHold (planOf p) (dataOf d) k) (InvalidPartition k)) 0 (suppliedCount (planOf p)))

@@ -8,14 +8,11 @@ use native.Mathlib.Omega.{arith}
 use Rattle.model.specs.Tests.{Is, _and_, _or_, non, _==_, every}
 use Rattle.model.specs.Bytes.{Bytes}
 use Rattle.model.specs.Outcomes.{require, _then_, scan, conclude}
-use Rattle.model.specs.Layout.{Plan, planOf, layoutCheck, regionCount, mapCount, suppliedCount, statementCount, nodeCount, stepCount, statementKind, statementC}
-use Rattle.model.specs.Declarations.{regionCheck, mapCheck, suppliedCheck}
-use Rattle.model.specs.Statements.{opens, operandRegion, statementCheck}
+use Rattle.model.specs.Layout.{Plan, planOf, layoutCheck, statementCount, statementKind, statementC}
+use Rattle.model.specs.Statements.{opens, operandRegion}
 use Rattle.model.specs.Parallel.{reads, writes, reduces, uncentered, accessOfLoop, sameTarget, conflicts, parallelizable, loopCheck}
-use Rattle.model.specs.Nodes.{nodeCheck}
-use Rattle.model.specs.Needs.{assignmentCountCheck, assignmentCheck, needCheck}
-use Rattle.model.specs.Lemmas.{stepCheck}
-use Rattle.model.specs.Verdict.{recordsCheck, planCheck, accepted, verdict}
+use Rattle.model.specs.Needs.{assignmentCountCheck}
+use Rattle.model.specs.Verdict.{regionsCheck, mapsCheck, partitionsCheck, statementsCheck, nodesCheck, assignmentsCheck, stepsCheck, needsCheck, recordsCheck, planCheck, accepted, verdict}
 use Rattle.model.specs.LoopRelations.{InLoop, VariableRegion, Centered, AccessThrough, AccessTarget}
 use Rattle.model.specs.PlainPlan.{ParallelizableLoop, WellFormed, Licensed, Concluded}
 use Rattle.model.specs.Promises.{Accepts}
@@ -123,16 +120,12 @@ module _ (P : Plan) (same : ℕ → ℕ → Bool) where
 
   abbrev pub recordsCheckBy : Outcome
   recordsCheckBy =
-      scan (regionCheck P) 0 (regionCount P)
-      then scan (mapCheck P) 0 (mapCount P)
-      then scan (suppliedCheck P) 0 (suppliedCount P)
-      then scan (statementCheck P) 0 (statementCount P)
-      then loopsCheckBy
-      then scan (nodeCheck P) 0 (nodeCount P)
-      then assignmentCountCheck P
-      then scan (assignmentCheck P) 0 (statementCount P)
-      then scan (stepCheck P) 0 (stepCount P)
-      then scan (needCheck P) 0 (statementCount P)
+      regionsCheck P then mapsCheck P then partitionsCheck P
+      then statementsCheck P then loopsCheckBy
+      then nodesCheck P
+      then assignmentCountCheck P then assignmentsCheck P
+      then stepsCheck P
+      then needsCheck P
 
 abbrev pub planCheckBy : (Plan → ℕ → ℕ → Bool) → Bytes → Outcome
 planCheckBy same p = layoutCheck p then recordsCheckBy (planOf p) (same (planOf p))
@@ -153,10 +146,10 @@ abbrev pub formerVerdict : Bytes → Answer
 formerVerdict = verdictBy sameRegion
 
 -- two outcomes are one, or the former is refusal 8
-abbrev OneOrTangled : Outcome → Outcome → Type 0
-OneOrTangled now former = (now ≡ former) ⊎ ((f : ℕ) × (former ≡ Refuse (NotParallelizable f)))
+abbrev OneOrNotParallelizable : Outcome → Outcome → Type 0
+OneOrNotParallelizable now former = (now ≡ former) ⊎ ((f : ℕ) × (former ≡ Refuse (NotParallelizable f)))
 
-one-after : {now former : Outcome} (first : Outcome) → OneOrTangled now former → OneOrTangled (first then now) (first then former)
+one-after : {now former : Outcome} (first : Outcome) → OneOrNotParallelizable now former → OneOrNotParallelizable (first then now) (first then former)
 unfolding _then_
 one-after Pass w = w
 one-after (Refuse r) w = inl refl
@@ -170,7 +163,7 @@ module _ (P : Plan) where
       pair (u .0) (every-of _ _ (λ t lt. implies (λ ht. refuted (λ w.
       lacks (implied (every-at _ _ (u .1) t lt) ht) (pair (both (both w .0) .0) (both w .1))))))))
 
-  loops-one : (rest : Outcome) → OneOrTangled (loopsCheckBy P (sameTarget P) then rest) (loopsCheckBy P (sameRegion P) then rest)
+  loops-one : (rest : Outcome) → OneOrNotParallelizable (loopsCheckBy P (sameTarget P) then rest) (loopsCheckBy P (sameRegion P) then rest)
   unfolding _then_
   loops-one rest = go (loopsCheckBy P (sameRegion P)) refl
     where
@@ -180,15 +173,15 @@ module _ (P : Plan) where
           required _ _ (implies (λ o. tested-by-region f (implied (require-pass _ _ (scan-pass _ _ h f lt)) o))))
 
       go : (former : Outcome) → loopsCheckBy P (sameRegion P) ≡ former →
-          OneOrTangled (loopsCheckBy P (sameTarget P) then rest) (former then rest)
+          OneOrNotParallelizable (loopsCheckBy P (sameTarget P) then rest) (former then rest)
       go Pass h = inl (rw (passes h) refl)
       go (Refuse r) h = let w = scan-refuse _ _ r h in inr (w .at, ap Refuse (sym (require-refuse _ _ r (w .refuses) .1)))
 
 -- only refusal 8 moves
-pub only-tangled-moves : (p : Bytes) → (verdict p ≡ formerVerdict p) ⊎ ((f : ℕ) × (formerVerdict p ≡ Refused (NotParallelizable f)))
+pub only-refusal-8-moves : (p : Bytes) → (verdict p ≡ formerVerdict p) ⊎ ((f : ℕ) × (formerVerdict p ≡ Refused (NotParallelizable f)))
 unfolding conclude
-only-tangled-moves p =
-    let checks : OneOrTangled (planCheckBy sameTarget p) (planCheckBy sameRegion p) =
+only-refusal-8-moves p =
+    let checks : OneOrNotParallelizable (planCheckBy sameTarget p) (planCheckBy sameRegion p) =
     one-after _ (one-after _ (one-after _ (one-after _ (one-after _ (loops-one (planOf p) _))))) in
     elim checks [
       | inl e ↦ inl (by-target-verdict p ∙ ap (λ o. conclude o (accepted (planOf p))) e)
@@ -198,7 +191,7 @@ only-tangled-moves p =
 -- what was accepted is accepted, with the same counts
 pub nothing-lost : (p : Bytes) → Accepts (formerVerdict p) → verdict p ≡ formerVerdict p
 nothing-lost p a =
-    elim (only-tangled-moves p) [
+    elim (only-refusal-8-moves p) [
       | inl e ↦ e
       | inr e ↦ absurd (accepted-not-refused (sym (a .3) ∙ e .1))
     ]

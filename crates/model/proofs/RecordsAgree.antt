@@ -6,13 +6,13 @@ use mathlib.Core.Logic.{inl, inr}
 use native.Mathlib.Omega.{arith}
 use Rattle.model.specs.Tests.{Is, non}
 use Rattle.model.specs.Bytes.{Bytes}
-use Rattle.model.specs.Outcomes.{scan}
-use Rattle.model.specs.Layout.{Plan, planOf, regionCount, mapCount, suppliedCount, nodeCount, stepCount, stepLemma, stepX, stepY, stepP, stepQ}
+use Rattle.model.specs.Layout.{Plan, planOf, nodeCount, stepCount, stepLemma, stepX, stepY, stepP, stepQ}
 use Rattle.model.specs.Nodes.{nodeFormed, nodeAgrees, duplicateNode, nodeCheck}
 use Rattle.model.specs.Lemmas.{stepFormed, stepLicensed, stepCheck}
 use Rattle.model.specs.Declarations.{regionCheck, mapCheck, suppliedCheck}
 use Rattle.model.specs.PlainPlan.{NodeFormed, NodeAgrees, SameNode, StepFormed, Licence}
 use Rattle.model.specs.GivenWhen.{RecordInvalid, RegionsDisagree, invalid-record, region-mismatch, duplicate-node, unlicensed-step}
+use Rattle.model.specs.Verdict.{regionsCheck, mapsCheck, partitionsCheck, nodesCheck, stepsCheck}
 use Rattle.model.specs.declared.Refusal.{Refusal}
 use Rattle.model.specs.declared.Outcome.the-variants.{Pass, Refuse}
 use Rattle.model.proofs.Tests.{lacks, refuted, split, latest}
@@ -42,7 +42,7 @@ module _ (P : Plan) where
     pub each : (j : ℕ) → j < nodeCount P → NodeFormed P j × NodeAgrees P j
     pub differ : (j k : ℕ) → j < nodeCount P → k < j → SameNode P k j → ⊥
 
-  pub nodes-plainly : scan (nodeCheck P) 0 (nodeCount P) ≡ Pass → NodesRead
+  pub nodes-plainly : nodesCheck P ≡ Pass → NodesRead
   nodes-plainly h =
       let formed : (j : ℕ) → j < nodeCount P → NodeFormed P j = λ j lt. node-formed P j .0 (node-passes j (scan-pass _ _ h j lt) .0) in
       record {
@@ -50,7 +50,7 @@ module _ (P : Plan) where
         differ = λ j k lt lk s. lacks (node-passes j (scan-pass _ _ h j lt) .2) (duplicate-agrees P j .1 (k, lk, s));
       }
 
-  pub passes-nodes : NodesRead → scan (nodeCheck P) 0 (nodeCount P) ≡ Pass
+  pub passes-nodes : NodesRead → nodesCheck P ≡ Pass
   unfolding nodeCheck
   passes-nodes r =
       passes-scan _ _ (λ j lt.
@@ -63,7 +63,7 @@ module _ (P : Plan) where
     pub formed : (t : ℕ) → t < stepCount P → StepFormed P t
     pub licensed : (t : ℕ) → t < stepCount P → Licence P (stepLemma P t) (stepX P t) (stepY P t) (stepP P t) (stepQ P t)
 
-  pub steps-plainly : scan (stepCheck P) 0 (stepCount P) ≡ Pass → StepsRead
+  pub steps-plainly : stepsCheck P ≡ Pass → StepsRead
   steps-plainly h =
       let test : (t : ℕ) → t < stepCount P → Is (stepFormed P t) = λ t lt. step-passes t (scan-pass _ _ h t lt) .0 in
       record {
@@ -71,7 +71,7 @@ module _ (P : Plan) where
         licensed = λ t lt. step-licence P t (λ i le. test i (omega arith)) .0 (step-passes t (scan-pass _ _ h t lt) .1);
       }
 
-  pub passes-steps : StepsRead → scan (stepCheck P) 0 (stepCount P) ≡ Pass
+  pub passes-steps : StepsRead → stepsCheck P ≡ Pass
   unfolding stepCheck
   passes-steps r =
       let test : (t : ℕ) → t < stepCount P → Is (stepFormed P t) = λ t lt. step-formed P t .1 (r .formed t lt) in
@@ -80,7 +80,7 @@ module _ (P : Plan) where
 
 -- where a check of these sections refuses
 module _ (p : Bytes) (r : Refusal) where
-  pub regions-refuse : scan (regionCheck (planOf p)) 0 (regionCount (planOf p)) ≡ Refuse r → PlanGiven p r
+  pub regions-refuse : regionsCheck (planOf p) ≡ Refuse r → PlanGiven p r
   unfolding regionCheck
   regions-refuse h =
       let w = scan-refuse _ _ r h in
@@ -88,7 +88,7 @@ module _ (p : Bytes) (r : Refusal) where
       (invalid-record refl
       (RecordInvalid.in-regions refl (omega (arith, w .inside)) (λ s. never (sym (w .refuses) ∙ region-formed (planOf p) (w .at) .1 s))))
 
-  pub maps-refuse : scan (mapCheck (planOf p)) 0 (mapCount (planOf p)) ≡ Refuse r → PlanGiven p r
+  pub maps-refuse : mapsCheck (planOf p) ≡ Refuse r → PlanGiven p r
   unfolding mapCheck
   maps-refuse h =
       let w = scan-refuse _ _ r h in
@@ -96,7 +96,7 @@ module _ (p : Bytes) (r : Refusal) where
       (invalid-record refl
       (RecordInvalid.in-maps refl (omega (arith, w .inside)) (λ s. never (sym (w .refuses) ∙ map-formed (planOf p) (w .at) .1 s))))
 
-  pub supplied-refuse : scan (suppliedCheck (planOf p)) 0 (suppliedCount (planOf p)) ≡ Refuse r → PlanGiven p r
+  pub supplied-refuse : partitionsCheck (planOf p) ≡ Refuse r → PlanGiven p r
   unfolding suppliedCheck
   supplied-refuse h =
       let w = scan-refuse _ _ r h in
@@ -104,7 +104,7 @@ module _ (p : Bytes) (r : Refusal) where
       (invalid-record refl
       (RecordInvalid.in-supplied refl (omega (arith, w .inside)) (λ s. never (sym (w .refuses) ∙ supplied-formed (planOf p) (w .at) .1 s))))
 
-  pub nodes-refuse : scan (nodeCheck (planOf p)) 0 (nodeCount (planOf p)) ≡ Refuse r → PlanGiven p r
+  pub nodes-refuse : nodesCheck (planOf p) ≡ Refuse r → PlanGiven p r
   unfolding nodeCheck
   nodes-refuse h =
       let w = scan-refuse _ _ r h in
@@ -124,7 +124,7 @@ module _ (p : Bytes) (r : Refusal) where
         | inr n ↦ absurd (lacks (f .0) n)
       ])))
 
-  pub steps-refuse : scan (stepCheck (planOf p)) 0 (stepCount (planOf p)) ≡ Refuse r → PlanGiven p r
+  pub steps-refuse : stepsCheck (planOf p) ≡ Refuse r → PlanGiven p r
   unfolding stepCheck
   steps-refuse h =
       let w = scan-refuse _ _ r h in

@@ -14,19 +14,43 @@ use Rattle.model.specs.declared.Answer.the-variants.{Accepted}
 use Rattle.model.specs.declared.Outcome.{Outcome}
 
 module _ (P : Plan) where
+  -- the records of each section, and the loops
+  abbrev pub regionsCheck : Outcome
+  regionsCheck = scan (regionCheck P) 0 (regionCount P)
+
+  abbrev pub mapsCheck : Outcome
+  mapsCheck = scan (mapCheck P) 0 (mapCount P)
+
+  abbrev pub partitionsCheck : Outcome
+  partitionsCheck = scan (suppliedCheck P) 0 (suppliedCount P)
+
+  abbrev pub statementsCheck : Outcome
+  statementsCheck = scan (statementCheck P) 0 (statementCount P)
+
+  abbrev pub loopsCheck : Outcome
+  loopsCheck = scan (loopCheck P) 0 (statementCount P)
+
+  abbrev pub nodesCheck : Outcome
+  nodesCheck = scan (nodeCheck P) 0 (nodeCount P)
+
+  abbrev pub assignmentsCheck : Outcome
+  assignmentsCheck = scan (assignmentCheck P) 0 (statementCount P)
+
+  abbrev pub stepsCheck : Outcome
+  stepsCheck = scan (stepCheck P) 0 (stepCount P)
+
+  abbrev pub needsCheck : Outcome
+  needsCheck = scan (needCheck P) 0 (statementCount P)
+
   -- "records by section, at each 5, 6, 7; 8 after section 4; 9 before section 6; at each step 5, then 10; 11 by symbol"
   unfoldable pub recordsCheck : Outcome
   recordsCheck =
-      scan (regionCheck P) 0 (regionCount P)
-      then scan (mapCheck P) 0 (mapCount P)
-      then scan (suppliedCheck P) 0 (suppliedCount P)
-      then scan (statementCheck P) 0 (statementCount P)
-      then scan (loopCheck P) 0 (statementCount P)
-      then scan (nodeCheck P) 0 (nodeCount P)
-      then assignmentCountCheck P
-      then scan (assignmentCheck P) 0 (statementCount P)
-      then scan (stepCheck P) 0 (stepCount P)
-      then scan (needCheck P) 0 (statementCount P)
+      regionsCheck then mapsCheck then partitionsCheck
+      then statementsCheck then loopsCheck
+      then nodesCheck
+      then assignmentCountCheck P then assignmentsCheck
+      then stepsCheck
+      then needsCheck
 
   -- "Acceptance carries the numbers of symbols, nodes and steps"
   abbrev pub accepted : Answer

@@ -13,6 +13,7 @@ use Rattle.model.specs.Statements.{kind, opensLoop, accessOf, isAccess, opens, 
 use Rattle.model.specs.Parallel.{reducesThroughPointer}
 use Rattle.model.specs.Lemmas.{concludesSubset, concludesDisjoint, concludesComplete}
 use Rattle.model.specs.Needs.{symbolNode, operandBound, loopNeedsMet, accessNeedMet, needCheck}
+use Rattle.model.specs.Verdict.{needsCheck}
 use Rattle.model.specs.declared.StatementKind.{StatementKind}
 use Rattle.model.specs.declared.StatementKind.the-variants.{For, Load, Call, Copy, Read, Write, Reduce, Unknown}
 use Rattle.model.specs.Outcomes.{require, _then_, scan}
@@ -26,7 +27,7 @@ use Rattle.primitives.proofs.Searches.{none-of}
 use Rattle.primitives.proofs.Scanning.{Scanning, scanning-start, scanning-next, scanning-refused, scanning-end}
 use Rattle.expressions.specs.Steps.{subsetKey, disjointKey, completeKey, ConclusionKeys}
 use Rattle.primitives.proofs.Filling.{entry-next}
-use Rattle.plan.specs.Needs.{NO-NEED, UNLISTED-BOUND, firstNeed, secondNeed, NeedsListed, concludingStep, settled, NeedsSettled, NeedsChecked, needsCheck}
+use Rattle.plan.specs.Needs.{NO-NEED, UNLISTED-BOUND, firstNeed, secondNeed, NeedsListed, concludingStep, settled, NeedsSettled, NeedsChecked}
 use Rattle.plan.specs.declared.needs.SettledNeeds.{SettledNeeds}
 use Rattle.plan.specs.declared.needs.Found.{Found}
 use Rattle.plan.specs.declared.needs.Found.the-variants.{At, Nowhere}

@@ -5,7 +5,7 @@ use mathlib.Core.List.{List}
 use Rattle.model.specs.Outcomes.{_then_}
 use Rattle.model.specs.Layout.{Plan, regionCount, fields}
 use Rattle.model.specs.Declarations.{regionCheck}
-use Rattle.model.specs.Verdict.{recordsCheck}
+use Rattle.model.specs.Verdict.{recordsCheck, statementsCheck, loopsCheck, nodesCheck, stepsCheck, needsCheck}
 use Rattle.model.specs.declared.Refusal.{Refusal}
 use Rattle.model.specs.declared.Outcome.{Outcome}
 use Rattle.model.specs.declared.Outcome.the-variants.{Pass, Refuse}
@@ -13,17 +13,17 @@ use Rattle.model.proofs.Tests.{both, most}
 use Rattle.model.proofs.Outcomes.{never, then-pass, then-assoc, require-pass, scan-pass}
 use Rattle.expressions.specs.declared.nodes.CheckedNodes.{CheckedNodes}
 use Rattle.expressions.specs.Nodes.{NodesChecked}
-use Rattle.expressions.specs.Steps.{stepsCheck, StepsRead}
+use Rattle.expressions.specs.Steps.{StepsRead}
 use Rattle.loops.specs.declared.section.CheckedStatements.{CheckedStatements}
 use Rattle.plan.specs.declared.records.CheckedRecords.{CheckedRecords}
-use Rattle.loops.specs.Section.{statementsCheck, loopsCheck, StatementsChecked}
-use Rattle.plan.specs.Assignments.{AssignmentTables, assignmentsCheck}
-use Rattle.plan.specs.Needs.{NeedTables, needsCheck}
-use Rattle.plan.specs.Records.{declarationsCheck, nodesCheck, RecordsChecked, refusedRecords}
+use Rattle.loops.specs.Section.{StatementsChecked}
+use Rattle.plan.specs.Assignments.{AssignmentTables, countedAssignmentsCheck}
+use Rattle.plan.specs.Needs.{NeedTables}
+use Rattle.plan.specs.Records.{declarationsCheck, RecordsChecked, refusedRecords}
 
 -- the records in the paper's order are the stages in a row
 pub in-stages : (P : Plan) → recordsCheck P ≡
-    (declarationsCheck P then (statementsCheck P then loopsCheck P) then nodesCheck P then assignmentsCheck P then stepsCheck P then needsCheck P)
+    (declarationsCheck P then (statementsCheck P then loopsCheck P) then nodesCheck P then countedAssignmentsCheck P then stepsCheck P then needsCheck P)
 unfolding recordsCheck
 in-stages P = simp then-assoc
 

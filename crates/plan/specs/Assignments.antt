@@ -4,18 +4,19 @@ use mathlib.Core.Path.{_≡_}
 use mathlib.Core.List.{List}
 use lib.ListN.{getD}
 use Rattle.model.specs.Bytes.{Bytes}
-use Rattle.model.specs.Outcomes.{_then_, scan}
+use Rattle.model.specs.Outcomes.{_then_}
 use Rattle.model.specs.Layout.{Plan, statementCount, nodeCount}
 use Rattle.model.specs.Statements.{operandDefinition, variableRegion}
 use Rattle.model.specs.Nodes.{nodeRegion}
-use Rattle.model.specs.Needs.{assignmentCountCheck, assignmentCheck}
+use Rattle.model.specs.Needs.{assignmentCountCheck}
+use Rattle.model.specs.Verdict.{assignmentsCheck}
 use Rattle.model.specs.declared.Outcome.{Outcome}
 use Rattle.loops.specs.Tables.{Table}
 use Rattle.loops.specs.Parallel.{Within}
 
--- section 6
-abbrev pub assignmentsCheck : Plan → Outcome
-assignmentsCheck P = assignmentCountCheck P then scan (assignmentCheck P) 0 (statementCount P)
+-- section 6: how many assignments there are, then each
+abbrev pub countedAssignmentsCheck : Plan → Outcome
+countedAssignmentsCheck P = assignmentCountCheck P then assignmentsCheck P
 
 -- statement s is one of at most 64, with at most one symbol for each before it
 pub record SymbolWithin (statements : Bytes) (symbol s : ℕ) : Type 0 where

@@ -11,7 +11,8 @@ use Rattle.model.specs.Layout.{Plan, statementCount, nodeCount, stepCount}
 use Rattle.model.specs.Statements.{kind, opensLoop, accessOf, isAccess, opens, accesses, operandDefinition, centered}
 use Rattle.model.specs.Parallel.{reducesThroughPointer}
 use Rattle.model.specs.Lemmas.{concludesSubset, concludesDisjoint, concludesComplete}
-use Rattle.model.specs.Needs.{symbol, symbolNode, boundBy, operandBound, needCheck}
+use Rattle.model.specs.Needs.{symbol, symbolNode, boundBy, operandBound}
+use Rattle.model.specs.Verdict.{needsCheck}
 use Rattle.model.specs.declared.StatementKind.{StatementKind}
 use Rattle.model.specs.declared.Outcome.{Outcome}
 use Rattle.model.specs.declared.Outcome.the-variants.{Pass}
@@ -117,10 +118,6 @@ pub record ConcludingSteps (P : Plan) (steps : List ℕ) : Type 0 where
       → getD steps (s * 2 + 1) 0 ≡ first (λ t. concludesDisjoint P t (symbolNode P s)) 0 (stepCount P)
   pub subsets : (s : ℕ) → s < statementCount P → Is (accesses P s)
       → getD steps (s * 2) 0 ≡ first (λ t. concludesSubset P t (operandBound P s) (symbolNode P s)) 0 (stepCount P)
-
--- all needs
-abbrev pub needsCheck : Plan → Outcome
-needsCheck P = scan (needCheck P) 0 (statementCount P)
 
 -- the outcome of the needs and, after a pass, the steps that conclude them
 pub record NeedsChecked (P : Plan) (r : SettledNeeds) : Type 0 where

@@ -2,24 +2,19 @@
 use Prim.Native.Nat.{ℕ, _<_}
 use mathlib.Core.Path.{_≡_}
 use lib.ListN.{getD, replicate}
-use Rattle.model.specs.Outcomes.{_then_, scan}
+use Rattle.model.specs.Outcomes.{_then_}
 use Rattle.model.specs.Layout.{Plan, nodeCount}
-use Rattle.model.specs.Nodes.{nodeRegion, nodeCheck}
-use Rattle.model.specs.Verdict.{recordsCheck}
+use Rattle.model.specs.Nodes.{nodeRegion}
+use Rattle.model.specs.Verdict.{recordsCheck, regionsCheck, mapsCheck, partitionsCheck}
 use Rattle.model.specs.declared.Outcome.{Outcome}
 use Rattle.model.specs.declared.Outcome.the-variants.{Pass, Refuse}
 use Rattle.model.specs.declared.Refusal.{Refusal}
-use Rattle.layout.specs.Declarations.{regionsCheck, mapsCheck, partitionsCheck}
 use Rattle.plan.specs.declared.records.CheckedRecords.{CheckedRecords}
 
 module _ (P : Plan) where
   -- sections 1 to 3
   abbrev pub declarationsCheck : Outcome
   declarationsCheck = regionsCheck P then mapsCheck P then partitionsCheck P
-
-  -- section 5
-  abbrev pub nodesCheck : Outcome
-  nodesCheck = scan (nodeCheck P) 0 (nodeCount P)
 
 -- the outcome of all records and, after a pass, the region of each node
 pub record RecordsChecked (P : Plan) (r : CheckedRecords) : Type 0 where

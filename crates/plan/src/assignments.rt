@@ -18,13 +18,13 @@ use primitives::sections::STATEMENTS;
 ghost use mathlib.Core.Path.{_≡_};
 ghost use Prim.Native.Nat.{_+_, _/_, _<_, _≤_};
 ghost use lib.ListN.{length};
-ghost use Rattle.model.specs.Outcomes.{scan};
-ghost use Rattle.model.specs.Layout.{Plan, planOf, statementCount};
+ghost use Rattle.model.specs.Layout.{Plan, planOf};
 ghost use Rattle.model.specs.Needs as Needs;
 ghost use Rattle.model.specs.Needs.{hasSymbol, symbolCount, symbolRegion, assignmentCheck};
+ghost use Rattle.model.specs.Verdict.{assignmentsCheck};
 ghost use Rattle.loops.specs.Parallel.{Within};
 ghost use Rattle.layout.specs.Frames.{Laid};
-ghost use Rattle.plan.specs.Assignments.{SymbolWithin, VariableTables, AssignmentTables, AssignmentSources, assignmentsCheck};
+ghost use Rattle.plan.specs.Assignments.{SymbolWithin, VariableTables, AssignmentTables, AssignmentSources, countedAssignmentsCheck};
 
 // Whether statement s has a symbol: a FOR, or an access.
 fn has_symbol(statements: &[u8], s: usize) -> bool
@@ -111,7 +111,7 @@ fn check_assigned_nodes(
     variable_regions: &[u8],
 ) -> Outcome
     requires { ⌜ length (now statements) / 4 ≤ 64 ⌝ }
-    ensures { λ r. ⌜ ((P : Plan) → AssignmentSources P (now (statements .entry)) (now (assignments .entry)) nodes (now («node_regions» .entry)) (now (operands .entry)) (now («variable_regions» .entry)) → r ≡ scan (assignmentCheck P) 0 (statementCount P)) ⌝ }
+    ensures { λ r. ⌜ ((P : Plan) → AssignmentSources P (now (statements .entry)) (now (assignments .entry)) nodes (now («node_regions» .entry)) (now (operands .entry)) (now («variable_regions» .entry)) → r ≡ assignmentsCheck P) ⌝ }
 {
     let mut symbol = 0;
     let mut s = 0;
@@ -144,7 +144,7 @@ pub fn check_assignments(
     variable_regions: &[u8],
 ) -> Outcome
     requires { ⌜ Laid (now plan) frame ⌝ }
-    ensures { λ r. ⌜ (AssignmentTables (planOf (now (plan .entry))) (now («node_regions» .entry)) (now (operands .entry)) (now («variable_regions» .entry)) → r ≡ assignmentsCheck (planOf (now (plan .entry)))) ⌝ }
+    ensures { λ r. ⌜ (AssignmentTables (planOf (now (plan .entry))) (now («node_regions» .entry)) (now (operands .entry)) (now («variable_regions» .entry)) → r ≡ countedAssignmentsCheck (planOf (now (plan .entry)))) ⌝ }
 {
     let statements = plan_section(plan, frame, STATEMENTS);
     let nodes = plan_section(plan, frame, NODES);

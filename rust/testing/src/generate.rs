@@ -4,6 +4,7 @@
 
 pub mod builder;
 pub mod case;
+pub mod conflict;
 pub mod data;
 pub mod derive;
 pub mod lemma;
@@ -11,6 +12,5 @@ pub mod limits;
 pub mod loops;
 pub mod miss;
 pub mod program;
-pub mod tangled;
 
 pub use case::{Case, Generator, Origin};

@@ -211,7 +211,7 @@ fn may_stand_together(accesses: [[u8; 4]; 2]) {
     gives(&loop_of_two(accesses).encode(), Answer::Accepted { symbols: 3, nodes: 3, steps: 5 });
 }
 
-fn are_tangled(accesses: [[u8; 4]; 2]) {
+fn may_not_stand_together(accesses: [[u8; 4]; 2]) {
     gives(&loop_of_two(accesses).encode(), Refusal::NotParallelizable(0).into());
 }
 
@@ -220,7 +220,7 @@ fn load_names_its_field_in_its_last_byte() {
     let load = [statement::LOAD, 0, 1, 2];
     may_stand_together([load, [statement::WRITE, 0, 0, 0]]);
     may_stand_together([load, [statement::WRITE, 0, 1, 0]]);
-    are_tangled([load, [statement::WRITE, 0, 2, 0]]);
+    may_not_stand_together([load, [statement::WRITE, 0, 2, 0]]);
 }
 
 #[test]
@@ -228,7 +228,7 @@ fn read_names_its_field_after_its_variable() {
     let read = [statement::READ, 1, 2, 0];
     may_stand_together([read, [statement::WRITE, 0, 0, 0]]);
     may_stand_together([read, [statement::WRITE, 0, 1, 0]]);
-    are_tangled([read, [statement::WRITE, 0, 2, 0]]);
+    may_not_stand_together([read, [statement::WRITE, 0, 2, 0]]);
 }
 
 #[test]
@@ -236,7 +236,7 @@ fn each_field_may_have_its_operator() {
     let reduce = |field, operator| [statement::REDUCE, 1, field, operator];
     may_stand_together([reduce(0, 1), reduce(1, 2)]);
     may_stand_together([reduce(1, 2), reduce(1, 2)]);
-    are_tangled([reduce(1, 1), reduce(1, 2)]);
+    may_not_stand_together([reduce(1, 1), reduce(1, 2)]);
 }
 
 #[test]
@@ -244,13 +244,13 @@ fn one_field_number_in_two_regions_is_no_conflict() {
     for [kind, operator] in [[statement::READ, 0], [statement::REDUCE, 3]] {
         let write = [statement::WRITE, 0, 1, 0];
         may_stand_together([[kind, 2, 1, operator], write]);
-        are_tangled([[kind, 1, 1, operator], write]);
+        may_not_stand_together([[kind, 1, 1, operator], write]);
     }
 }
 
 #[test]
 fn a_write_must_be_centered_whatever_its_field() {
-    are_tangled([[statement::WRITE, 1, 0, 0], [statement::READ, 0, 1, 0]]);
+    may_not_stand_together([[statement::WRITE, 1, 0, 0], [statement::READ, 0, 1, 0]]);
 }
 
 #[test]

@@ -100,8 +100,8 @@ fn plans_meant_to_be_accepted_are() {
 }
 
 #[test]
-fn tangled_plans_are_refused_for_their_loop() {
-    for judged in run().iter().filter(|judged| judged.case.origin == Origin::Tangled) {
+fn conflicting_plans_are_refused_for_their_loop() {
+    for judged in run().iter().filter(|judged| judged.case.origin == Origin::Conflicting) {
         assert_eq!(judged.checked.number(), 8, "{:?}", judged.checked);
     }
 }

@@ -1,7 +1,7 @@
 //! Cases: a plan, a data set and the length of the slice lent for it.
 #![forbid(unsafe_code)]
 
-use super::{data, lemma, limits, miss, program, tangled};
+use super::{conflict, data, lemma, limits, miss, program};
 use crate::encode::{Plan, PIECE_WORDS};
 use crate::random::Random;
 use crate::reference::flaw::Limit;
@@ -18,7 +18,7 @@ pub enum Origin {
     /// A plan that may lack image nodes or steps it needs.
     Incomplete,
     /// A plan right but for a loop that is not parallelizable.
-    Tangled,
+    Conflicting,
     /// An accepted plan with a loop like that, its accesses set apart by region or by field.
     Apart,
     /// A plan with several things wrong.
@@ -65,7 +65,7 @@ impl Generator {
         match self.random.below(20) {
             0..=5 => self.accepted(),
             6 => {
-                let plan = tangled::apart_plan(&mut self.random);
+                let plan = conflict::apart_plan(&mut self.random);
                 self.with_some_data(Origin::Apart, &plan)
             }
             7..=10 => self.lemma_near_miss(),
@@ -78,8 +78,8 @@ impl Generator {
                 self.with_some_data(Origin::Incomplete, &plan)
             }
             16 => {
-                let plan = tangled::tangled_plan(&mut self.random);
-                self.with_some_data(Origin::Tangled, &plan)
+                let plan = conflict::conflicting_plan(&mut self.random);
+                self.with_some_data(Origin::Conflicting, &plan)
             }
             17 => self.damaged(),
             18 => self.compound(),

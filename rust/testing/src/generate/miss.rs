@@ -2,9 +2,9 @@
 #![forbid(unsafe_code)]
 
 use super::builder::Builder;
+use super::conflict::conflicting_plan;
 use super::lemma::{requirement_count, LEMMAS};
 use super::program::{accepted_plan, incomplete_plan};
-use super::tangled::tangled_plan;
 use crate::encode::{limit, node, statement, Plan};
 use crate::random::Random;
 
@@ -65,7 +65,7 @@ pub fn altered_plan(random: &mut Random) -> Plan {
 /// A plan with several things wrong, so that the order of rules shows.
 pub fn compound_plan(random: &mut Random) -> Plan {
     let mut plan = match random.below(5) {
-        0 | 1 => tangled_plan(random),
+        0 | 1 => conflicting_plan(random),
         2 => incomplete_plan(random),
         3 => some_lemma_near_miss(random),
         _ => accepted_plan(random),

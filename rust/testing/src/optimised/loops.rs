@@ -48,7 +48,7 @@ struct Open {
     centered: u32,
     /// The classes of the accesses so far, by region and field.
     classes: [u8; TARGETS],
-    tangled: bool,
+    conflicts: bool,
     reduces_through_pointer: bool,
 }
 
@@ -62,7 +62,7 @@ impl Open {
             regions,
             centered: 1,
             classes: [0; TARGETS],
-            tangled: false,
+            conflicts: false,
             reduces_through_pointer: false,
         }
     }
@@ -92,7 +92,7 @@ impl Open {
         let target = usize::from(region) * limit::FIELDS + usize::from(field);
         let classes = &mut self.classes[target % TARGETS];
         *classes |= 1 << class;
-        self.tangled |= *classes & class::CONFLICTS[usize::from(class) % 8] != 0;
+        self.conflicts |= *classes & class::CONFLICTS[usize::from(class) % 8] != 0;
         self.reduces_through_pointer |= class < class::CENTERED_READ;
     }
 
@@ -111,13 +111,13 @@ impl Open {
 
 pub fn read(plan: &Plan) -> Result<Loops, Refusal> {
     let mut loops = Loops { symbols: 0, symbol_regions: [0; limit::STATEMENTS], needs_disjoint: 0 };
-    let mut tangled = None;
+    let mut first_conflict = None;
     let mut open: Option<Open> = None;
     for (number, &bytes) in plan.statements.iter().enumerate() {
         let record = Record { number, bytes };
         if bytes[0] == statement::FOR {
             if let Some(open) = &open {
-                close(open, &mut loops, &mut tangled);
+                close(open, &mut loops, &mut first_conflict);
             }
             open = Some(read_for(plan, record, &mut loops)?);
         } else {
@@ -126,16 +126,16 @@ pub fn read(plan: &Plan) -> Result<Loops, Refusal> {
         }
     }
     if let Some(open) = &open {
-        close(open, &mut loops, &mut tangled);
+        close(open, &mut loops, &mut first_conflict);
     }
-    tangled.map_or(Ok(loops), |record| Err(Refusal::NotParallelizable(record as u64)))
+    first_conflict.map_or(Ok(loops), |record| Err(Refusal::NotParallelizable(record as u64)))
 }
 
-/// The first tangled loop is kept until all statements are read.
+/// The first loop that is not parallelizable is kept until all statements are read.
 #[inline]
-fn close(open: &Open, loops: &mut Loops, tangled: &mut Option<usize>) {
-    if tangled.is_none() && open.tangled {
-        *tangled = Some(open.record);
+fn close(open: &Open, loops: &mut Loops, first_conflict: &mut Option<usize>) {
+    if first_conflict.is_none() && open.conflicts {
+        *first_conflict = Some(open.record);
     }
     loops.needs_disjoint |= u64::from(open.reduces_through_pointer) << open.record;
 }

@@ -12,10 +12,11 @@ unfolding class classBy pick
 class-bit-spec =
     tie.close
     (tie.spec
-    (λ c. search needs) (λ c. search needs) (λ c. search needs) (λ c. search needs) (λ c. search needs) (λ c. search needs)
+    (λ c. search needs) (λ c. search needs) (λ c. search needs) (λ c. search needs) (λ c. search needs)
     (λ c. rw (c .enum-told .given .1))
     (λ c. rw (c .before .enum-told2 .given .1, c .if1 .taken))
     (λ c. rw (c .before .enum-told2 .given .1, c .if1 .left))
-    (λ c. rw (c .enum-told3 .given .1))
-    (λ c. rw (c .before .enum-told4 .given .1, c .if2 .taken))
-    (λ c. rw (c .before .before .enum-told4 .given .1, c .before .if2 .left) (operator-bit _ (omega arith))))
+    (λ c. rw (c .before .enum-told3 .given .1, c .if2 .taken))
+    (λ c. rw (c .before .enum-told3 .given .1, c .if2 .left))
+    (λ c. rw (c .before .enum-told4 .given .1, c .if3 .taken))
+    (λ c. rw (c .before .before .enum-told4 .given .1, c .before .if3 .left) (operator-bit _ (omega arith))))

@@ -18,16 +18,14 @@ returns c =
 
 returns-2 : tie.Need-returns-2
 returns-2 c =
-    let told = c .before .before in
-    let entry = told .before in
+    let entry = c .before in
     let target = entry .before .before .target-number .ensures in
     let other = entry .before .before .before in
     let start = other .before .before in
     let access = sym (other .before .is-access .ensures) ∙ not-false _ (other .if1 .left) in
     let classes = entry .class-bit .ensures in (
       entered-is (start .args .a) (now (start .args .seen)) access (target .0) classes,
-      admitted-is (start .args .a) (now (start .args .seen)) access (target .0) classes (omega (arith, target .1, start .pre))
-          (told .is-compatible .ensures) (c .before .is-write .ensures),
+      admitted-is (start .args .a) (now (start .args .seen)) access (target .0) classes (omega (arith, target .1, start .pre)) (c .is-compatible .ensures),
     )
 
 pub enter-access-spec : {M : Type 1} → statement M
@@ -36,5 +34,5 @@ enter-access-spec =
     (tie.spec
     (λ c κs. search needs)
     returns
-    (λ c κs. search needs) (λ c. search needs) (λ c κs. search needs) (λ c. search needs) (λ c κs. search needs) (λ c κs. search needs)
+    (λ c κs. search needs) (λ c. search needs) (λ c κs. search needs) (λ c. search needs) (λ c κs. search needs)
     returns-2)

@@ -44,24 +44,22 @@ module _ (l : tie.In-loop Inv-loop μ-loop) (P : Plan) (span : Span (start l) P)
   in-loop : loop P (l .before .loop .s) ≡ start l .args .range .first
   in-loop = span .own (l .before .loop .s) (l .before .loop .inv .0) (l .loop-test .taken)
 
-access-is : (a : tie.After-loop-access Inv-loop μ-loop) (P : Plan) → Known (start (a .before)) P → Span (start (a .before)) P
-    → a .loop-access .result ≡ accessAt P (a .before .before .loop .s)
-access-is a P known span = a .loop-access .ensures P known (inside (a .before) P span)
-
--- what was seen with it, and whether it is admitted
-module _ (m : tie.After-enter-access Inv-loop μ-loop) (P : Plan) (known : Known (start (m .before .before .before)) P)
-    (span : Span (start (m .before .before .before)) P) where
+-- its access, what was seen with it, and whether it is admitted
+module _ (m : tie.After-enter-access Inv-loop μ-loop) (P : Plan) (known : Known (start (m .before .before .before)) P) where
   abbrev access : LoopAccess
   access = accessAt P (m .before .before .before .before .loop .s)
 
   abbrev seen : List ℕ
   seen = entered access (m .before .before .before .before .loop .seen)
 
+  access-is : m .before .before .loop-access .result ≡ access
+  access-is = m .before .before .loop-access .ensures P known
+
   entered-is : m .enter-access .last .0 ≡ seen
-  entered-is = rw (access-is (m .before .before) P known span) at (m .enter-access .ensures .0)
+  entered-is = rw access-is at (m .enter-access .ensures .0)
 
   admitted-is : m .enter-access .result ≡ admitted access seen
-  admitted-is = rw (entered-is, access-is (m .before .before) P known span) at (m .enter-access .ensures .1)
+  admitted-is = rw (entered-is, access-is) at (m .enter-access .ensures .1)
 
 returns : tie.Need-returns Inv-loop μ-loop
 returns c =
@@ -69,7 +67,7 @@ returns c =
     let l = m .before .before .before in
     λ P known span.
     sym (not-parallelizable P _ (known .limits) (l .before .loop .inv .2 P known span) (in-loop l P span) (inside l P span)
-    (sym (admitted-is m P known span) ∙ not-true _ (c .if1 .taken)))
+    (sym (admitted-is m P known) ∙ not-true _ (c .if1 .taken)))
 
 loop-again : tie.Need-loop-again Inv-loop μ-loop
 loop-again c =
@@ -78,8 +76,8 @@ loop-again c =
       search needs,
       ap length (m .enter-access .ensures .0) ∙ entered-length _ _ ∙ l .before .loop .inv .1,
       λ P known span.
-          rw (entered-is m P known span) (seen-next P _ (l .before .loop .inv .2 P known span) (in-loop l P span)
-          (sym (admitted-is m P known span) ∙ not-false _ (c .if1 .left))),
+          rw (entered-is m P known) (seen-next P _ (l .before .loop .inv .2 P known span) (in-loop l P span)
+          (sym (admitted-is m P known) ∙ not-false _ (c .if1 .left))),
     )
 
 returns-2 : tie.Need-returns-2 Inv-loop μ-loop

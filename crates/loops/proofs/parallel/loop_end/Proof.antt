@@ -2,7 +2,6 @@
 use denote.Ref.{now}
 use Prim.Native.Nat.{_-_, _/_, _≤_, _<_}
 use mathlib.Core.Path.{_≡_, sym, _∙_}
-use native.Mathlib.Omega.{arith}
 use lib.ListN.{length}
 use Rattle.model.specs.Tests.{Is}
 use Rattle.model.specs.Layout.{Plan}
@@ -30,9 +29,8 @@ loop-holds c = (search needs, search needs, λ P section o. own-start P _ o)
 returns : tie.Need-returns Inv-loop μ-loop
 returns c =
     let l = c .before .before .before .before in
-    let inv = l .loop .inv in
-    let few : l .loop .t ≤ 64 = omega (arith, inv .1, l .before .before .pre .few) in (
-      few,
+    let inv = l .loop .inv in (
+      inv .1,
       λ P section o.
           span-to-for P _ _ (rw section (inv .1)) (inv .2 P section o) (inv .0) (sym (opens-is (c .before) P section) ∙ c .if1 .taken),
     )
@@ -50,8 +48,7 @@ returns-2 : tie.Need-returns-2 Inv-loop μ-loop
 returns-2 c =
     let l = c .before in
     let inv = l .loop .inv in
-    let few : l .loop .t ≤ 64 = omega (arith, inv .1, l .before .before .pre .few) in
-    (few, λ P section o. span-to-end P _ _ (rw section (inv .1)) (inv .2 P section o) (rw section (c .loop-test .left)))
+    (inv .1, λ P section o. span-to-end P _ _ (rw section (inv .1)) (inv .2 P section o) (rw section (c .loop-test .left)))
 
 pub loop-end-spec : {M : Type 1} → statement M
 loop-end-spec =

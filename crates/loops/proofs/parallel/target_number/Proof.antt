@@ -1,5 +1,4 @@
 -- As the definition says. Assumes nothing.
-use mathlib.Core.Path.{refl}
 use native.Mathlib.Omega.{arith}
 use Rattle.loops.specs.Parallel.{targetNumber}
 use borrow.Author.Needs.{needs}
@@ -8,7 +7,7 @@ use Rattle.loops.proofs.parallel.target_number.Tie as tie
 
 returns : tie.Need-returns
 unfolding targetNumber
-returns c = (refl, omega arith)
+returns c = let field = c .usize-of .ensures .0 in (rw field, omega (arith, field))
 
 pub target-number-spec : {M : Type 1} → statement M
-target-number-spec = tie.close (tie.spec (λ c. search needs) (λ c. search needs) returns)
+target-number-spec = tie.close (tie.spec (λ c. search needs) (λ c κs. search needs) (λ c. search needs) returns)

@@ -8,10 +8,11 @@ use lib.ListN.{length}
 use Rattle.model.specs.Outcomes.{_then_}
 use Rattle.model.specs.Layout.{Plan, statementCount}
 use Rattle.model.specs.Statements.{statementCheck}
+use Rattle.model.specs.Verdict.{loopsCheck}
 use Rattle.model.specs.declared.Outcome.{Outcome}
 use Rattle.model.proofs.Outcomes.{never, scan-pass}
 use Rattle.primitives.proofs.Scanning.{scanning-refused, scanning-end}
-use Rattle.loops.specs.Section.{StatementSources, loopsCheck}
+use Rattle.loops.specs.Section.{StatementSources}
 use Rattle.loops.specs.Statements.{variablesOf, EntryAt}
 use Rattle.loops.proofs.Accesses.{access-limits}
 use Rattle.loops.proofs.StatementLaws.{StatementPass, pass-start, context, pass-next, pass-end}

@@ -3,12 +3,9 @@ use denote.Ref.{now}
 use mathlib.Core.Path.{_≡_, sym, _∙_}
 use Rattle.model.specs.Outcomes.{_then_}
 use Rattle.model.specs.Layout.{Plan, planOf}
-use Rattle.model.specs.Verdict.{recordsCheck}
-use Rattle.loops.specs.Section.{statementsCheck, loopsCheck, StatementsChecked}
-use Rattle.expressions.specs.Steps.{stepsCheck}
-use Rattle.plan.specs.Assignments.{assignmentsCheck}
-use Rattle.plan.specs.Needs.{needsCheck}
-use Rattle.plan.specs.Records.{nodesCheck}
+use Rattle.model.specs.Verdict.{recordsCheck, statementsCheck, loopsCheck, nodesCheck, stepsCheck, needsCheck}
+use Rattle.loops.specs.Section.{StatementsChecked}
+use Rattle.plan.specs.Assignments.{countedAssignmentsCheck}
 use Rattle.primitives.proofs.Stages.{stage-passed, stage-refused}
 use Rattle.plan.proofs.Stages.{in-stages, records-refused, assignment-tables, need-tables}
 use borrow.Author.Needs.{needs}
@@ -20,7 +17,7 @@ abbrev plan-past3 : tie.After-enum-told → Plan
 plan-past3 m = planOf (now (m .before .before .before .before .args .plan))
 
 passed3 : (m : tie.After-enum-told) → (let P = plan-past3 m in
-    recordsCheck P ≡ ((statementsCheck P then loopsCheck P) then nodesCheck P then assignmentsCheck P then stepsCheck P then needsCheck P))
+    recordsCheck P ≡ ((statementsCheck P then loopsCheck P) then nodesCheck P then countedAssignmentsCheck P then stepsCheck P then needsCheck P))
 passed3 m = stage-passed _ (in-stages _) (m .before .before .check-declarations .ensures) (m .enum-told .given .1)
 
 -- section 4 and the loops, after the declarations
@@ -34,14 +31,14 @@ abbrev plan-past4 : tie.After-enum-told2 → Plan
 plan-past4 m = plan-past3 (m .before .before .before)
 
 passed4 : (m : tie.After-enum-told2) → (let P = plan-past4 m in
-    recordsCheck P ≡ (nodesCheck P then assignmentsCheck P then stepsCheck P then needsCheck P))
+    recordsCheck P ≡ (nodesCheck P then countedAssignmentsCheck P then stepsCheck P then needsCheck P))
 passed4 m = stage-passed _ (passed3 (m .before .before .before)) (statements-checked (m .before .before) .outcome) (m .enum-told2 .given .1)
 
 -- section 5 passed
 abbrev plan-past5 : tie.After-enum-told3 → Plan
 plan-past5 m = plan-past4 (m .before .before .before)
 
-passed5 : (m : tie.After-enum-told3) → (let P = plan-past5 m in recordsCheck P ≡ (assignmentsCheck P then stepsCheck P then needsCheck P))
+passed5 : (m : tie.After-enum-told3) → (let P = plan-past5 m in recordsCheck P ≡ (countedAssignmentsCheck P then stepsCheck P then needsCheck P))
 passed5 m = stage-passed _ (passed4 (m .before .before .before)) (m .before .before .check-nodes .ensures .outcome) (m .enum-told3 .given .1)
 
 -- section 6, with the tables of sections 4 and 5
@@ -51,7 +48,7 @@ nodes-before m = m .before .before .before .before .before .before .before
 abbrev plan-at6 : tie.After-check-assignments → Plan
 plan-at6 m = plan-past5 (nodes-before m)
 
-assigned : (m : tie.After-check-assignments) → m .check-assignments .result ≡ assignmentsCheck (plan-at6 m)
+assigned : (m : tie.After-check-assignments) → m .check-assignments .result ≡ countedAssignmentsCheck (plan-at6 m)
 assigned m =
     let nodes = nodes-before m in
     let statements = nodes .before .before .before in

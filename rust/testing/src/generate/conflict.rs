@@ -128,7 +128,7 @@ fn loop_of_an_uncentered_write(random: &mut Random, plan: &mut Plan) -> Loop {
 }
 
 /// A plan that must be refused for a loop that is not parallelizable.
-pub fn tangled_plan(random: &mut Random) -> Plan {
+pub fn conflicting_plan(random: &mut Random) -> Plan {
     if random.one_in(CONFLICTS.len() + 1) {
         plan_with(random, loop_of_an_uncentered_write)
     } else {
