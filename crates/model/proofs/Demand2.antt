@@ -17,10 +17,11 @@ use Rattle.model.specs.declared.Answer.{Answer}
 use Rattle.model.specs.declared.Answer.the-variants.{Accepted, Refused}
 use Rattle.model.proofs.Outcomes.{scan-agrees, then-pass, passes-then, conclude-accepted, conclude-refused, conclude-pass}
 use Rattle.model.proofs.Accepted.{verdict-accepted}
-use Rattle.model.proofs.LayoutAgrees.{LayoutRead, layout-read, region-formed, map-formed, supplied-formed}
+use Rattle.model.proofs.LayoutAgrees.{layout-read, well-formed-layout, region-formed, map-formed, supplied-formed}
 use Rattle.model.proofs.RecordsAgree.{NodesRead, nodes-plainly, passes-nodes, steps-plainly, passes-steps}
 use Rattle.model.proofs.SymbolsAgree.{symbols-before}
 use Rattle.model.proofs.Demand2Loops.{statements-pass, loops-pass, assignment-count-passes, assignments-pass, needs-pass}
+use Rattle.model.proofs.Undisturbed.{undisturbed}
 use Rattle.model.proofs.GivenWhen.{plan-refuses}
 use Rattle.model.proofs.FirstMet.{plan-first}
 
@@ -70,16 +71,8 @@ module _ (p : Bytes) where
   plainly-accepted : Plainly → planCheck p ≡ Pass
   unfolding planCheck recordsCheck
   plainly-accepted (R, loops, licensed, needs) =
-      let L : LayoutRead p =
-      record {
-        some-byte = R .some-byte;
-        edition = R .edition;
-        sections-end = R .sections-end;
-        section-lengths = R .section-lengths;
-        nothing-after = R .nothing-after;
-      } in
       let N : NodesRead (planOf p) = record { each = R .nodes; differ = R .nodes-differ } in
-      passes-then (layout-read p .1 L)
+      passes-then (layout-read p .1 (well-formed-layout p R))
       (passes-then (scan-agrees _ _ _ (λ k lt. region-formed (planOf p) k) .1 (R .regions))
       (passes-then (scan-agrees _ _ _ (λ k lt. map-formed (planOf p) k) .1 (R .maps))
       (passes-then (scan-agrees _ _ _ (λ k lt. supplied-formed (planOf p) k) .1 (R .supplied))
@@ -116,4 +109,5 @@ check-promise p r e =
       counts = λ a b c h. counts p a b c (sym e ∙ h);
       refused = λ q h. rw h (plan-refuses p q (refuses q h));
       first = λ q h. rw h (plan-first p q (refuses q h));
+      undisturbed = λ a d fits. undisturbed p d (demand-2 p .0 (rw e at a) .1);
     }

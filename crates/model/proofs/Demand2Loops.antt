@@ -18,6 +18,7 @@ use Rattle.model.specs.PlainPlan.{StatementFormed, StatementAgrees, Para
 use Rattle.model.specs.GivenWhen.{RecordInvalid, RegionsDisagree, invalid-record, region-mismatch, not-parallelizable, assignment-count, unmet-need}
 use Rattle.model.specs.Verdict.{statementsCheck, loopsCheck, assignmentsCheck, needsCheck}
 use Rattle.model.specs.declared.Refusal.{Refusal}
+use Rattle.model.specs.declared.Refusal.the-variants.{NotParallelizable}
 use Rattle.model.specs.declared.Outcome.the-variants.{Pass, Refuse}
 use Rattle.model.proofs.Tests.{pair, one, lacks, split, implied, implies, same, same!, less, less! }
 use Rattle.model.proofs.Outcomes.{scan-agrees, then-pass, passes-then, then-cases, require-pass, required, require-refuse, scan-pass, passes-scan, scan-refuse}
@@ -200,6 +201,28 @@ module _ (P : Plan) where
     needs-pass =
         scan-agrees (needCheck P) (NeedsConcluded P) (statementCount P) (λ s lt. Iff·trans (need-passes s) (need-agrees s lt))
 
+-- what the check of the loops refuses for: a loop that is not parallelizable
+pub record LoopRefused (P : Plan) (r : Refusal) : Type 0 where
+  pub record-of-for : ℕ
+  pub refusal : NotParallelizable record-of-for ≡ r
+  pub inside : record-of-for < statementCount P
+  pub opens : statementKind P record-of-for ≡ 0
+  pub broken : ParallelizableLoop P record-of-for → ⊥
+
+pub loop-refused : (P : Plan) → StatementsRead P → (r : Refusal) → loopsCheck P ≡ Refuse r → LoopRefused P r
+unfolding loopCheck
+loop-refused P R r h =
+    let w = scan-refuse _ _ r h in
+    let f = require-refuse _ _ r (w .refuses) in
+    let u = not-implied (f .0) in
+    record {
+      record-of-for = w .at;
+      refusal = f .1;
+      inside = omega (arith, w .inside);
+      opens = opens-is P (w .at) .0 (u .0);
+      broken = λ q. u .1 (loop-parallelizable P (all-formed P R) (w .at) .1 q);
+    }
+
 -- where a check refuses
 module _ (p : Bytes) (r : Refusal) where
   pub statements-refuse : statementsCheck (planOf p) ≡ Refuse r → PlanGiven p r
@@ -217,14 +240,7 @@ module _ (p : Bytes) (r : Refusal) where
 
   pub loops-refuse :
       StatementsRead (planOf p) → loopsCheck (planOf p) ≡ Refuse r → PlanGiven p r
-  unfolding loopCheck
-  loops-refuse R h =
-      let w = scan-refuse _ _ r h in
-      let lt : w .at < statementCount (planOf p) = omega (arith, w .inside) in
-      let f = require-refuse _ _ r (w .refuses) in
-      let u = not-implied (f .0) in
-      let agrees = loop-parallelizable (planOf p) (all-formed (planOf p) R) (w .at) in
-      rw (← f .1) (not-parallelizable refl lt (opens-is (planOf p) (w .at) .0 (u .0)) (λ q. u .1 (agrees .1 q)))
+  loops-refuse R h = let w = loop-refused (planOf p) R r h in rw (← w .refusal) (not-parallelizable refl (w .inside) (w .opens) (w .broken))
 
   pub assignment-count-refuses : assignmentCountCheck (planOf p) ≡ Refuse r → PlanGiven p r
   unfolding assignmentCountCheck

@@ -33,6 +33,7 @@ use Rattle.model.proofs.NodeSets.{node-within}
 use Rattle.model.proofs.SetsAgree.{sets-agree}
 use Rattle.model.proofs.FinalWords.{filled-length, filled-later, filled-holds}
 use Rattle.model.proofs.Demand3.{Evaluated, evaluated, acceptance-given, demand-3}
+use Rattle.model.proofs.Undisturbed.{undisturbed}
 use Rattle.model.proofs.FirstMet.{evaluation-first}
 use Rattle.model.proofs.GivenWhen.{evaluation-refuses}
 use Rattle.model.proofs.Demand2.{demand-2}
@@ -100,4 +101,5 @@ module _ (p d : Bytes) (old new : List ℕ) (r : Answer) (answers : r ≡ evalua
         operator-sets = follow;
         above-size = λ a j i e lj li low high. exact a j i e lj li high ∙ outside a j i e lj low;
         legal = λ a. rw (filled a) (demand-3 p d old (checked a .plan-passes) (checked a .data-passes) (checked a .enough));
+        undisturbed = λ a. undisturbed p d (accepts .0 a .1);
       }

@@ -9,7 +9,7 @@ use lib.ListN.{length}
 use Rattle.model.specs.Tests.{Is, _and_, _==_, _≤?_}
 use Rattle.model.specs.Bytes.{Bytes, byte, u16, boundary, body}
 use Rattle.model.specs.Layout.{Plan, shapes, shapeOf, sectionCheck, layoutCheck, regionCount, fields, source, target, totality, suppliedRegion, suppliedFlags}
-use Rattle.model.specs.PlainPlan.{SectionLength, regions, maps, supplied, statements, nodes, assignments, steps}
+use Rattle.model.specs.PlainPlan.{WellFormed, SectionLength, regions, maps, supplied, statements, nodes, assignments, steps}
 use Rattle.model.proofs.Tests.{lacks, both, pair, same, same!, less, less!, most, most!, Firsts, at-each}
 use Rattle.model.specs.Declarations.{regionCheck, mapCheck, suppliedCheck}
 use Rattle.model.specs.Answers.{refusalReport}
@@ -78,6 +78,17 @@ pub record LayoutRead (p : Bytes) : Type 0 where
   pub sections-end : (n : ℕ) → n < 7 → boundary p (suc n) ≤ length p
   pub section-lengths : (n : ℕ) → n < 7 → SectionLength (suc n) (length (body p n))
   pub nothing-after : length p ≡ boundary p 7
+
+-- of a plan that reads by the layout
+pub well-formed-layout : (p : Bytes) → WellFormed p → LayoutRead p
+well-formed-layout p R =
+    record {
+      some-byte = R .some-byte;
+      edition = R .edition;
+      sections-end = R .sections-end;
+      section-lengths = R .section-lengths;
+      nothing-after = R .nothing-after;
+    }
 
 -- a length of whole records, and a length without a rest
 whole-iff : (a b : ℕ) → (a ≡ a / b * b) ↔ (a % b ≡ 0)

@@ -10,6 +10,7 @@ pub mod LoopsAgree
 pub mod VariablesAgree
 pub mod StatementsAgree
 pub mod ParallelAgree
+pub mod Undisturbed
 pub mod SymbolsAgree
 pub mod NeedsAgree
 pub mod NodesAgree
@@ -37,6 +38,9 @@ pub mod FirstMet
 pub mod EvaluationPromise
 pub mod JudgementPromise
 pub mod Demand2
+pub mod AllToFirst
+pub mod ExactRule
+pub mod Disturbances
 pub mod FormerRule
 pub mod LoopExamples
 pub mod Packed

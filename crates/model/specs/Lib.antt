@@ -23,6 +23,7 @@ pub mod PlainData
 pub mod PlainSets
 pub mod Touches
 pub mod Legal
+pub mod Undisturbed
 pub mod GivenWhen
 pub mod RefusalOrder
 pub mod Promises

@@ -23,6 +23,7 @@ use Rattle.model.specs.GivenWhen.{PlanGivenWhen, EvaluationGivenWhen}
 use Rattle.model.specs.RefusalOrder.{turn, Earlier}
 use Rattle.model.specs.PlainSets.{OperatorSets}
 use Rattle.model.specs.Legal.{Legal}
+use Rattle.model.specs.Undisturbed.{Undisturbed}
 use Rattle.model.specs.declared.Refusal.{Refusal}
 use Rattle.model.specs.declared.Answer.{Answer}
 use Rattle.model.specs.declared.Outcome.the-variants.{Pass}
@@ -49,6 +50,8 @@ pub record CheckPromise (p : Bytes) (r : Answer) : Type 0 where
   pub first :
       (q : Refusal) → r ≡ Refused q → (number place : ℕ) → Earlier (turn number place) (turn (report r .number) (report r .place)) →
       PlanGivenWhen p number place → ⊥
+  -- "No iteration disturbs another": so it is of an accepted plan over every data set that fits it
+  pub undisturbed : Accepts r → (d : Bytes) → Fits (planOf p) d → Undisturbed p d
 
 -- evaluating plan p over data set d into words that held `old` answers r and leaves `new`
 pub record EvaluationPromise (p d : Bytes) (old new : List ℕ) (r : Answer) : Type 0 where
@@ -87,6 +90,8 @@ pub record EvaluationPromise (p d : Bytes) (old new : List ℕ) (r : Answer) : T
       holds new ((j * pieces (dataOf d) + i) * 8) e ≡ false
   -- demand 3
   pub legal : Accepts r → Legal p d new
+  -- "No iteration disturbs another", over this data set
+  pub undisturbed : Accepts r → Undisturbed p d
 
 -- what is known of a plan and a data set that were accepted together
 pub record AcceptedInputs (p d : Bytes) : Type 0 where

@@ -5,6 +5,7 @@
 pub mod encode;
 pub mod filed;
 pub mod generate;
+pub mod meaning;
 pub mod optimised;
 pub mod random;
 pub mod reference;

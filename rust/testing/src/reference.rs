@@ -13,6 +13,7 @@ pub mod promise;
 pub mod sections;
 pub mod statements;
 pub mod steps;
+pub mod undisturbed;
 
 use mavisglen::{Answer, Refusal};
 

@@ -4,24 +4,28 @@
 
 mod common;
 
-use common::Version;
+use common::{loops_are_judged_by_touches, Version};
 use mavisglen_testing::reference::promise::test_promise;
 
 const DEFAULT_CASES: u64 = 250_000;
 const LIBRARY: Version = Version { check: mavisglen::check, evaluate: mavisglen::evaluate };
 
-/// Answers and words are the reference's, and every accepted evaluation
-/// keeps the promise, which is tested directly from what loops touch.
+/// Answers and words are the reference's. Every accepted evaluation keeps
+/// the promise, and every loop is refused or admitted as its iterations
+/// disturb each other or not: both tested directly from what loops touch.
 #[test]
 fn random_cases_agree_and_keep_the_promise() {
-    let mut accepted = 0;
+    let (mut accepted, mut not_parallelizable) = (0, 0);
     LIBRARY.agrees_on_random_cases(DEFAULT_CASES, |case, answer, words| {
+        loops_are_judged_by_touches(&case.plan, answer);
+        not_parallelizable += usize::from(answer.number() == 8);
         if answer.is_accepted() {
             accepted += 1;
             assert_eq!(test_promise(&case.plan, &case.data, words), Ok(()), "{case:?}");
         }
     });
     println!("{accepted} of them accepted, and the promise kept");
+    println!("{not_parallelizable} of them refused for a loop that is disturbed");
 }
 
 #[test]

@@ -113,18 +113,10 @@ fn checked_otherwise(flaw: Flaw) -> usize {
 }
 
 #[test]
-fn flaws_of_fields_are_noticed_often() {
-    let flaws = [
-        Flaw::FieldIgnored,
-        Flaw::LoadFieldIsB,
-        Flaw::FieldsAlone,
-        Flaw::ReductionByRegion,
-        Flaw::UncenteredReadByRegion,
-        Flaw::OnlyLatestAccessRemembered,
-    ];
-    let counts = flaws.map(checked_otherwise);
-    println!("{counts:?}");
-    for (flaw, count) in flaws.into_iter().zip(counts) {
+fn flaws_of_the_parallelizable_rule_are_noticed_often() {
+    for flaw in Flaw::PARALLELIZABLE {
+        let count = checked_otherwise(flaw);
+        println!("{flaw:?}: {count}");
         assert!(count >= OFTEN, "{flaw:?} is noticed too seldom: {count}");
     }
 }

@@ -3,16 +3,21 @@
 
 use mavisglen_testing::encode::{Plan, PIECE_WORDS};
 use mavisglen_testing::generate::{Case, Generator};
-use mavisglen_testing::reference;
+use mavisglen_testing::reference::flaw::Flaw;
 use mavisglen_testing::reference::promise::{test_promise, Broken};
+use mavisglen_testing::reference::Reference;
 
 const CASES: usize = 8_000;
 
 /// Accepted evaluations of plans with loops, with their final words.
 fn evaluations() -> impl Iterator<Item = (Case, Plan, Vec<u64>)> {
-    Generator::new(3).take(CASES).filter_map(|case| {
+    evaluations_by(Reference::default())
+}
+
+fn evaluations_by(reference: Reference) -> impl Iterator<Item = (Case, Plan, Vec<u64>)> {
+    Generator::new(3).take(CASES).filter_map(move |case| {
         let mut words = case.words.clone();
-        let accepted = reference::evaluate(&case.plan, &case.data, &mut words).is_accepted();
+        let accepted = reference.evaluate(&case.plan, &case.data, &mut words).is_accepted();
         let plan = Plan::decode(&case.plan)?;
         (accepted && !plan.assignments.is_empty()).then_some((case, plan, words))
     })
@@ -63,4 +68,19 @@ fn missing_elements_and_repeated_iterations_are_noticed() {
         }
     }
     assert!(missing > 100 && repeated > 100, "{missing} {repeated}");
+}
+
+/// A copy whose rule admits every loop still fills the right words: it breaks the promise by its loops alone.
+#[test]
+fn disturbed_iterations_are_noticed() {
+    let flawed = Reference::flawed(Flaw::EveryVariableCentered);
+    let mut noticed = 0;
+    for (case, _, words) in evaluations_by(flawed) {
+        match flawed.test_promise(&case.plan, &case.data, &words) {
+            Ok(()) => {}
+            Err(Broken::Disturbed(_)) => noticed += 1,
+            Err(broken) => panic!("{broken:?}"),
+        }
+    }
+    assert!(noticed > 100, "{noticed}");
 }

@@ -16,6 +16,17 @@ pub fn fitting(random: &mut Random, plan: &Plan) -> DataSet {
     filled(random, plan, pieces as u8, sizes)
 }
 
+/// A data set that fits every plan of right regions, maps and supplied partitions: two elements in each region, every
+/// entry the first of them, and one piece that has both.
+pub fn all_to_first(plan: &Plan) -> DataSet {
+    DataSet {
+        pieces: 1,
+        sizes: vec![2; plan.regions.len()],
+        maps: vec![vec![0; 2]; plan.maps.len()],
+        supplied: vec![vec![vec![true; 2]]; plan.supplied.len()],
+    }
+}
+
 /// Often the largest itself or a whole number of words or bytes.
 fn some_size(random: &mut Random, largest: usize) -> u16 {
     let size = match random.below(8) {

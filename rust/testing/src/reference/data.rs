@@ -38,7 +38,7 @@ const NONE: usize = 65535;
 
 impl Reference {
     /// The slice's length matters to a flaw only.
-    pub(super) fn read_data(&self, plan: &Plan, bytes: &[u8], lent: usize) -> Result<DataSet, Refusal> {
+    pub fn read_data(&self, plan: &Plan, bytes: &[u8], lent: usize) -> Result<DataSet, Refusal> {
         let frame = self.cut_data(plan, bytes).ok_or(Refusal::InvalidData)?;
         if self.has(Flaw::SliceJudgedBeforeEntries) {
             self.judge_slice(plan, frame.pieces, lent)?;

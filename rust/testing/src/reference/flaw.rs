@@ -166,9 +166,30 @@ pub enum Flaw {
 }
 
 impl Flaw {
+    /// Flaws in which loops the parallelizable rule refuses.
+    pub const PARALLELIZABLE: [Flaw; 17] = [
+        Flaw::WriteMayBeUncentered,
+        Flaw::ReductionMayMeetAccess,
+        Flaw::ReductionMayMeetCenteredReduction,
+        Flaw::ReductionMayMeetCenteredWrite,
+        Flaw::ReductionOperatorsMayDiffer,
+        Flaw::UncenteredReadMayMeetWrite,
+        Flaw::UncenteredReadMayMeetReduction,
+        Flaw::LoadIsNoRead,
+        Flaw::CopyIsUncentered,
+        Flaw::EveryVariableCentered,
+        Flaw::FieldIgnored,
+        Flaw::LoadFieldIsB,
+        Flaw::FieldsAlone,
+        Flaw::ReductionByRegion,
+        Flaw::UncenteredReadByRegion,
+        Flaw::OnlyLatestAccessRemembered,
+        Flaw::LoopsJudgedTogether,
+    ];
+
     /// Every flaw there is.
     pub fn all() -> Vec<Flaw> {
-        let mut flaws = SINGLE.to_vec();
+        let mut flaws = [&Flaw::PARALLELIZABLE[..], &OTHERS].concat();
         flaws.extend(Limit::ALL.map(Flaw::Lower));
         flaws.extend(Limit::ALL.map(Flaw::Higher));
         flaws.extend([6, 8, 10, 12, 13, 14, 15, 16, 17, 18, 19, 20].map(Flaw::IgnoresP));
@@ -177,7 +198,7 @@ impl Flaw {
     }
 }
 
-const SINGLE: [Flaw; 89] = [
+const OTHERS: [Flaw; 72] = [
     Flaw::AnyEdition,
     Flaw::TrailingBytesAdmitted,
     Flaw::NoRegionAdmitted,
@@ -199,23 +220,6 @@ const SINGLE: [Flaw; 89] = [
     Flaw::StepMayCiteItself,
     Flaw::AllStepsReadFirst,
     Flaw::CountJudgedBeforeNodes,
-    Flaw::WriteMayBeUncentered,
-    Flaw::ReductionMayMeetAccess,
-    Flaw::ReductionMayMeetCenteredReduction,
-    Flaw::ReductionMayMeetCenteredWrite,
-    Flaw::ReductionOperatorsMayDiffer,
-    Flaw::UncenteredReadMayMeetWrite,
-    Flaw::UncenteredReadMayMeetReduction,
-    Flaw::LoadIsNoRead,
-    Flaw::CopyIsUncentered,
-    Flaw::EveryVariableCentered,
-    Flaw::FieldIgnored,
-    Flaw::LoadFieldIsB,
-    Flaw::FieldsAlone,
-    Flaw::ReductionByRegion,
-    Flaw::UncenteredReadByRegion,
-    Flaw::OnlyLatestAccessRemembered,
-    Flaw::LoopsJudgedTogether,
     Flaw::LoopsJudgedAsTheyClose,
     Flaw::LoopsJudgedAfterNodes,
     Flaw::EqualFromAnything,

@@ -17,7 +17,7 @@ struct JudgedAccess {
 
 impl Reference {
     /// Tangled, by loop, once all statements are read.
-    pub(super) fn judge_loops(&self, plan: &Plan) -> Result<(), Refusal> {
+    pub fn judge_loops(&self, plan: &Plan) -> Result<(), Refusal> {
         for (index, current) in plan.loops.iter().enumerate() {
             let judged = if self.has(Flaw::LoopsJudgedTogether) {
                 &plan.loops[..=index]

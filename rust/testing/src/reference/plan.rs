@@ -45,7 +45,7 @@ pub enum Effect {
     Reduce { operator: usize },
 }
 
-#[derive(Clone, Debug)]
+#[derive(Clone, Copy, Debug, PartialEq, Eq)]
 pub struct Access {
     pub symbol: usize,
     pub variable: usize,
@@ -149,11 +149,7 @@ impl Reference {
     /// Reads all seven sections: every refusal but Unmet.
     pub(super) fn read_plan(&self, bytes: &[u8]) -> Result<Plan, Refusal> {
         let bodies = self.split_plan(bytes)?;
-        let mut plan = Plan::default();
-        self.read_regions(&mut plan, bodies[0])?;
-        self.read_maps(&mut plan, bodies[1])?;
-        self.read_supplied(&mut plan, bodies[2])?;
-        self.read_statements(&mut plan, bodies[3])?;
+        let mut plan = self.read_sections_1_to_4(&bodies)?;
         match self.flaw {
             Some(Flaw::LoopsJudgedAfterNodes) => {
                 self.read_nodes(&mut plan, bodies[4])?;
@@ -174,6 +170,20 @@ impl Reference {
         }
         self.read_assignments(&mut plan, bodies[5])?;
         self.read_steps(&mut plan, bodies[6])?;
+        Ok(plan)
+    }
+
+    /// Reads a plan up to its loops, which are not judged.
+    pub fn read_loops(&self, bytes: &[u8]) -> Result<Plan, Refusal> {
+        self.read_sections_1_to_4(&self.split_plan(bytes)?)
+    }
+
+    fn read_sections_1_to_4(&self, bodies: &[&[u8]]) -> Result<Plan, Refusal> {
+        let mut plan = Plan::default();
+        self.read_regions(&mut plan, bodies[0])?;
+        self.read_maps(&mut plan, bodies[1])?;
+        self.read_supplied(&mut plan, bodies[2])?;
+        self.read_statements(&mut plan, bodies[3])?;
         Ok(plan)
     }
 

@@ -1,21 +1,23 @@
 //! The third demand, tested directly: what the iterations touch against the
-//! final words, with no use of lemmas, needs or the evaluator's sets.
+//! final words and each other, with no use of lemmas, needs, the evaluator's
+//! sets or the parallelizable rule.
 #![forbid(unsafe_code)]
 
 use super::data::DataSet;
-use super::plan::{Loop, Origin, Plan};
+use super::plan::{Access, Loop, Origin, Plan};
+use super::undisturbed::{test_touches, Disturbance};
 use super::Reference;
 use crate::encode::PIECE_WORDS;
 
 /// One access touches one element in one iteration of its loop.
-#[derive(Clone, Copy, Debug, PartialEq, Eq, PartialOrd, Ord)]
+#[derive(Clone, Copy, Debug, PartialEq, Eq)]
 pub struct Touch {
     pub iteration: usize,
-    pub symbol: usize,
+    pub access: Access,
     pub element: usize,
 }
 
-/// How final words can break what acceptance promises.
+/// How what acceptance promises can be broken.
 #[derive(Clone, Copy, Debug, PartialEq, Eq)]
 pub enum Broken {
     /// The bytes are not of an accepted plan with a fitting data set.
@@ -26,6 +28,8 @@ pub enum Broken {
     RepeatedIteration { symbol: usize, iteration: usize },
     /// A piece holds the iteration, but its subregion lacks the element.
     MissingElement { touch: Touch, piece: usize },
+    /// An iteration touches what another has to itself.
+    Disturbed(Disturbance),
 }
 
 /// Everything the loop's iterations touch, from the data set's entries alone.
@@ -33,9 +37,9 @@ pub fn touches(current: &Loop, data: &DataSet) -> Vec<Touch> {
     let mut touches = Vec::new();
     for iteration in 0..data.sizes[current.region()] {
         let elements = elements(current, data, iteration);
-        for access in &current.accesses {
+        for &access in &current.accesses {
             if let Some(element) = elements[access.variable] {
-                touches.push(Touch { iteration, symbol: access.symbol, element });
+                touches.push(Touch { iteration, access, element });
             }
         }
     }
@@ -58,11 +62,17 @@ fn elements(current: &Loop, data: &DataSet, iteration: usize) -> Vec<Option<usiz
 
 /// Tests the final words of an accepted evaluation against the touches.
 pub fn test_promise(plan: &[u8], data: &[u8], words: &[u64]) -> Result<(), Broken> {
-    let reference = Reference::default();
-    let plan = reference.checked_plan(plan).map_err(|_| Broken::NotAccepted)?;
-    let data = reference.read_data(&plan, data, words.len()).map_err(|_| Broken::NotAccepted)?;
-    let outcome = Outcome { plan: &plan, data: &data, words };
-    plan.loops.iter().try_for_each(|current| outcome.test_loop(current))
+    Reference::default().test_promise(plan, data, words)
+}
+
+impl Reference {
+    /// The same for what a flawed copy accepts.
+    pub fn test_promise(&self, plan: &[u8], data: &[u8], words: &[u64]) -> Result<(), Broken> {
+        let plan = self.checked_plan(plan).map_err(|_| Broken::NotAccepted)?;
+        let data = self.read_data(&plan, data, words.len()).map_err(|_| Broken::NotAccepted)?;
+        let outcome = Outcome { plan: &plan, data: &data, words };
+        plan.loops.iter().try_for_each(|current| outcome.test_loop(current))
+    }
 }
 
 /// Final words with the plan and data that say how to read them.
@@ -96,12 +106,14 @@ impl Outcome<'_> {
                 _ => {}
             }
         }
-        touches(current, self.data).into_iter().try_for_each(|touch| self.test_touch(current, touch))
+        let touches = touches(current, self.data);
+        touches.iter().try_for_each(|&touch| self.test_touch(current, touch))?;
+        test_touches(current, touches).map_err(Broken::Disturbed)
     }
 
     /// Every piece that holds the iteration has what it touches.
     fn test_touch(&self, current: &Loop, touch: Touch) -> Result<(), Broken> {
-        let lacks = |&piece: &usize| !self.has(touch.symbol, piece, touch.element);
+        let lacks = |&piece: &usize| !self.has(touch.access.symbol, piece, touch.element);
         match self.holders(current.symbol, touch.iteration).find(lacks) {
             Some(piece) => Err(Broken::MissingElement { touch, piece }),
             None => Ok(()),

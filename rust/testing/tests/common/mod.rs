@@ -7,6 +7,7 @@ use mavisglen::{Answer, Refusal};
 use mavisglen_testing::encode::{limit, statement, Plan};
 use mavisglen_testing::filed::{data_d, plan_a, plan_b};
 use mavisglen_testing::generate::{Case, Generator};
+use mavisglen_testing::meaning::Meaning;
 use mavisglen_testing::reference;
 use mavisglen_testing::workload::{filed_example, largest_check, longest_loop, mixed, Mix};
 
@@ -64,7 +65,8 @@ impl Version {
         }
     }
 
-    /// Every row of three accesses in one loop: a third can undo what is remembered of the first two.
+    /// Every row of three accesses in one loop: a third can undo what is remembered of the first two. Refused are the
+    /// loops that are disturbed.
     pub fn agrees_on_every_three_accesses(&self) {
         let accesses = accesses();
         let mut numbers = [0; 16];
@@ -73,6 +75,7 @@ impl Version {
                 let plan = loop_of(&[first, second, third]).encode();
                 let answer = reference::check(&plan);
                 assert_eq!((self.check)(&plan), answer, "{first:?} {second:?} {third:?}");
+                loops_are_judged_by_touches(&plan, answer);
                 numbers[usize::from(answer.number())] += 1;
             }
         }
@@ -103,6 +106,18 @@ impl Version {
             comparison.must_agree(|| workload.name.clone(), &workload.plan, &workload.data);
         }
     }
+}
+
+/// The loop that an answer refuses is the first that can be disturbed; where it refuses none, none can be.
+pub fn loops_are_judged_by_touches(plan: &[u8], answer: Answer) {
+    let by_touches = Meaning::of(plan).map(|meaning| meaning.judgement());
+    let answered = match answer {
+        Answer::Refused(refusal @ Refusal::NotParallelizable(_)) => Some(Err(refusal)),
+        // Refused before the loops are judged.
+        Answer::Refused(_) if by_touches.is_none() => None,
+        _ => Some(Ok(())),
+    };
+    assert_eq!(answered, by_touches, "plan {}", hexadecimal(plan));
 }
 
 /// LOAD, READ, WRITE and REDUCEs of two operators, through each variable and in two fields.
