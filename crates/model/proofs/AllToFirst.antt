@@ -89,7 +89,7 @@ module _ (P : Plan) (R : RegionsListed P) where
             ∙ rw (map-entries m lm) (zeros k);
       }
 
-  -- the data set fits the plan
+  -- what is declared of the supplied partitions is so
   supplied-hold : (k : ℕ) → k < suppliedCount P → DeclarationsHold P (dataOf (allToFirstData P)) k
   unfolding supplied
   supplied-hold k lk =
@@ -109,11 +109,12 @@ module _ (P : Plan) (R : RegionsListed P) where
           read .member-bit-read k 0 e lk (omega (arith, read .pieces-read)) le
           ∙ rw (one-piece k lk) (two e (omega (arith, all-to-first .two-elements (suppliedRegion P k) (R .supplied-regions k lk))))
 
-  -- and, within the limits of plans, it is bytes
+  -- for a plan within the limits the data set is bytes
   pub all-to-first-octets : Limits P → Octets (allToFirstData P)
   unfolding allToFirstData
   all-to-first-octets L = data-octets P L (allToFirst P) within
 
+  -- it is framed as it must be, and fits
   framed : WellFramed P (allToFirstData P)
   unfolding allToFirstData
   framed = frame-fits P (allToFirstData P) .0 (data-framed P (allToFirst P) within)
