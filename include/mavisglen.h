@@ -1,7 +1,8 @@
-/* Partition plans: checking, and evaluating over a data set. docs/FORMAT.md has the byte formats, the words and the
- * table of refusals. Link with libmavisglen.a (x86-64).
+/* Partition plans: checking, evaluating over a data set, and explaining why an element is in a piece. docs/FORMAT.md
+ * has the byte formats, the words, the chains and the table of refusals. Link with libmavisglen.a (x86-64).
  *
- * The functions keep no state and allocate nothing. Threads may call them at the same time, each with words of its own.
+ * The functions keep no state and allocate nothing. Threads may call them at the same time, each with memory of its own
+ * to write into.
  *
  * SPDX-License-Identifier: MIT OR Apache-2.0
  */
@@ -17,6 +18,9 @@ extern "C" {
 
 /* As many words as any plan needs: 48 nodes of 16 pieces of 8 words. */
 #define MAVISGLEN_MOST_WORDS 6144
+
+/* As many pairs as any chain has: one of each of 48 nodes. */
+#define MAVISGLEN_LONGEST_CHAIN 48
 
 /* The number of an answer: 0, or a refusal's. Behind the meaning of each refusal stands what its place is; the first in
  * the order of docs/FORMAT.md is given. */
@@ -37,7 +41,10 @@ enum mavisglen_answer_number {
     MAVISGLEN_INVALID_ENTRY = 13,     /* a map's entry is out of range, or none in a total map: map * 512 + element */
     MAVISGLEN_INVALID_PARTITION = 14, /* a supplied partition breaks a declared flag or has a bit past its last element:
                                          its number */
-    MAVISGLEN_OUTPUT_TOO_SMALL = 15   /* fewer words are lent than nodes * pieces * 8: that product */
+    MAVISGLEN_OUTPUT_TOO_SMALL = 15,  /* fewer words are lent than nodes * pieces * 8: that product;
+                                         or fewer places than the chain's length: that length */
+    MAVISGLEN_NOT_FOUND = 16          /* the node (1), the piece (2) or the element (3) does not exist, or the element
+                                         is not in the piece (4): the lowest of these */
 };
 
 /* Checks a plan: an acceptance, or a refusal of the plan (1 to 11).
@@ -53,6 +60,18 @@ uint64_t mavisglen_check(const uint8_t *plan, size_t plan_len);
  * Writes: after an acceptance the first nodes * pieces * 8 words, the nodes' subregions; after a refusal nothing. */
 uint64_t mavisglen_evaluate(const uint8_t *plan, size_t plan_len, const uint8_t *data, size_t data_len,
                             uint64_t *words, size_t words_len);
+
+/* Explains why an element is in a piece of a node, by a chain of pairs of a node and an element, from the pair asked
+ * for to one of a supplied or an equal node: the chain's length, or a refusal of the plan (1 to 11), of the data set
+ * (12 to 14), of what is asked for (16) or of the number of places (15). Any node, piece and element may be asked for.
+ * Asks: plan_len bytes can be read at plan and data_len at data, which may overlap each other; nodes_len numbers at
+ * nodes and elements_len at elements, aligned as uint16_t is, can be read and written, and overlap neither each other
+ * nor plan and data; a pointer may be null where its length is 0. The numbers at nodes and elements may be any.
+ * Writes: if it is explained, as many numbers as the chain is long, its nodes at nodes and its elements at elements;
+ * after a refusal nothing. */
+uint64_t mavisglen_explain(const uint8_t *plan, size_t plan_len, const uint8_t *data, size_t data_len, size_t node,
+                           size_t piece, size_t element, uint16_t *nodes, size_t nodes_len, uint16_t *elements,
+                           size_t elements_len);
 
 /* Every answer is a number in the low 8 bits, and above them the value that goes with it. */
 
@@ -81,6 +100,12 @@ static inline uint64_t mavisglen_place(uint64_t answer)
 static inline unsigned mavisglen_count_from(uint64_t answer, unsigned bit)
 {
     return mavisglen_accepted(answer) ? (unsigned)((mavisglen_value(answer) >> bit) & 0xFF) : 0;
+}
+
+/* The length of what was written, of an explanation; 0 for a refusal. */
+static inline uint64_t mavisglen_length(uint64_t answer)
+{
+    return mavisglen_accepted(answer) ? mavisglen_value(answer) : 0;
 }
 
 /* The counts of an accepted plan, checked or evaluated; 0 for a refusal. */

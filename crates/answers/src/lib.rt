@@ -2,8 +2,10 @@
 use model::Answer;
 use model::Refusal;
 use model::Report;
+use model::Written;
+use model::WrittenReport;
 ghost use mathlib.Core.Path.{_≡_};
-ghost use Rattle.model.specs.Answers.{report, refusalReport};
+ghost use Rattle.model.specs.Answers.{report, refusalReport, writtenReport};
 
 // What an answer reports: on refusal "counts 0".
 pub fn report_answer(answer: Answer) -> Report
@@ -31,6 +33,24 @@ pub fn report_answer(answer: Answer) -> Report
     }
 }
 
+// What an answer about a written list reports: on refusal length 0.
+pub fn report_written(answer: Written) -> WrittenReport
+    ensures { λ r. ⌜ r ≡ writtenReport answer ⌝ }
+{
+    match answer {
+        Written::Length(length) => WrittenReport {
+            number: 0,
+            place: 0,
+            length,
+        },
+        Written::Refused(refusal) => WrittenReport {
+            number: refusal_number(refusal),
+            place: refusal_place(refusal),
+            length: 0,
+        },
+    }
+}
+
 // The table of refusals: column "no.".
 pub fn refusal_number(refusal: Refusal) -> usize
     ensures { λ r. ⌜ r ≡ refusalReport refusal .number ⌝ }
@@ -51,6 +71,7 @@ pub fn refusal_number(refusal: Refusal) -> usize
         Refusal::InvalidEntry(_) => 13,
         Refusal::InvalidPartition(_) => 14,
         Refusal::OutputTooSmall(_) => 15,
+        Refusal::NotFound(_) => 16,
     }
 }
 
@@ -73,6 +94,7 @@ pub fn refusal_place(refusal: Refusal) -> usize
         Refusal::InvalidData => 0,
         Refusal::InvalidEntry(place) => place,
         Refusal::InvalidPartition(partition) => partition,
-        Refusal::OutputTooSmall(words) => words,
+        Refusal::OutputTooSmall(length) => length,
+        Refusal::NotFound(what) => what,
     }
 }

@@ -1,2 +1,3 @@
 pub mod ByteOrder
 pub mod Elements
+pub mod Zeros

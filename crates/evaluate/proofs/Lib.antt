@@ -1,2 +1,4 @@
 pub mod DataParts
 pub mod Stages
+pub mod Spans
+pub mod OnePiece

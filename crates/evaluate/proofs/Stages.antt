@@ -1,4 +1,4 @@
--- The stages of an evaluation in a row, what the fills ask for after the last, and the promise that follows. Assumes nothing.
+-- The stages of plan and data set in a row, whatever is checked after them; those of an evaluation, and the promise that follows. Assumes nothing.
 use Prim.Native.Nat.{ℕ, _*_, _≤_, _<_}
 use mathlib.Core.Path.{_≡_, refl, sym, _∙_}
 use mathlib.Core.List.{List}
@@ -6,11 +6,11 @@ use mathlib.Core.Bool.{false}
 use native.Mathlib.Omega.{arith}
 use lib.ListN.{length}
 use Rattle.model.specs.Tests.{_≤?_}
-use Rattle.model.specs.Bytes.{Bytes, body}
+use Rattle.model.specs.Bytes.{Bytes}
 use Rattle.model.specs.Outcomes.{require, _then_, conclude}
 use Rattle.model.specs.Layout.{planOf, nodeCount}
 use Rattle.model.specs.Verdict.{planCheck, accepted, verdict}
-use Rattle.model.specs.DataSets.{dataOf, pieces, dataCheck}
+use Rattle.model.specs.DataSets.{dataOf, pieces}
 use Rattle.model.specs.Evaluation.{wordsNeeded, inputsCheck, outputCheck, evaluationCheck, evaluation, filledWords}
 use Rattle.model.specs.Promises.{EvaluationPromise}
 use Rattle.model.specs.declared.Answer.the-variants.{Accepted, Refused}
@@ -28,63 +28,41 @@ use Rattle.plan.specs.Reading.{ReadPromise}
 use Rattle.dataset.specs.declared.layout.DataLayout.{DataLayout}
 use Rattle.dataset.specs.Layout.{frameCheck, LayoutRead}
 use Rattle.dataset.proofs.Stages.{data-in-parts}
-use Rattle.subregions.specs.Fill.{FillSources}
 use Rattle.evaluate.specs.Data.{PlanPlaced, ContentsReady, contentsCheck}
-use Rattle.evaluate.specs.Words.{WordsReady}
-
-pub fill-sources :
-    {p d : Bytes} {reading : Reading} {layout : DataLayout} {lent : ℕ} → WordsReady p reading d layout lent → {nodes sizes entries members : Bytes} {N : ℕ} →
-    nodes ≡ body p 4 → sizes ≡ body d 1 → entries ≡ body d 2 → members ≡ body d 3 → N ≡ pieces (dataOf d) →
-    FillSources (planOf p) d nodes (reading .«node_regions») sizes entries members (layout .«entry_starts») (layout .«member_starts») N lent
-fill-sources ready nodes-are sizes-are entries-are members-are counted =
-    record {
-      facts = ready .accepted .facts;
-      limits = ready .accepted .limits;
-      fits = ready .fits;
-      enough = ready .enough;
-      nodes-are = nodes-are;
-      node-regions-are = ready .accepted .node-regions;
-      sizes-are = sizes-are;
-      entries-are = entries-are;
-      members-are = members-are;
-      pieces-are = counted;
-      entries-begin = ready .placed .entries .begin;
-      members-begin = ready .placed .members .begin;
-    }
-
--- the promise, by the outcome of all checks
-module _ (p d : Bytes) (old : List ℕ) where
-  pub refusal-given : {r : Refusal} → Refuse r ≡ evaluationCheck p d (length old) → EvaluationPromise p d old old (Refused r)
-  unfolding evaluation conclude
-  refusal-given h = evaluation-promise p d old old _ (rw (sym h)) refl
+use Rattle.evaluate.specs.Words.{InputsReady, WordsReady}
 
 -- the stages in the paper's order
-in-stages : (p d : Bytes) (lent : ℕ) → evaluationCheck p d lent ≡
-    (planCheck p then frameCheck (planOf p) d then contentsCheck (planOf p) (dataOf d) then outputCheck (planOf p) (dataOf d) lent)
-unfolding evaluationCheck inputsCheck
-in-stages p d lent = rw (data-in-parts (planOf p) d, then-assoc, then-assoc)
+in-stages : (p d : Bytes) (rest : Outcome) → (inputsCheck p d then rest) ≡ (planCheck p then frameCheck (planOf p) d then contentsCheck (planOf p) (dataOf d) then rest)
+unfolding inputsCheck
+in-stages p d rest = rw (data-in-parts (planOf p) d, then-assoc, then-assoc)
 
 pub plan-placed : {p : Bytes} {reading : Reading} {symbols nodes steps : ℕ} → ReadPromise p reading → reading .answer ≡ Accepted symbols nodes steps → PlanPlaced p (reading .frame)
 plan-placed read told = let known = read .accepted _ _ _ told in record { delimited = known .delimited; limits = known .limits }
 
+-- what is known of plan and data set once all their stages passed
+pub record InputsPassed (p : Bytes) (reading : Reading) (d : Bytes) (layout : DataLayout) : Type 0 where
+  pub passes : inputsCheck p d ≡ Pass
+  pub answer-is : reading .answer ≡ accepted (planOf p)
+  pub ready : InputsReady p reading d layout
+
 -- the plan
-module _ (p d : Bytes) (lent : ℕ) {reading : Reading} (read : ReadPromise p reading) where
-  pub plan-refused : {r : Refusal} → reading .answer ≡ Refused r → Refuse r ≡ evaluationCheck p d lent
+module _ (p d : Bytes) {reading : Reading} (read : ReadPromise p reading) where
+  pub plan-refused : (rest : Outcome) {r : Refusal} → reading .answer ≡ Refused r → Refuse r ≡ (inputsCheck p d then rest)
   unfolding verdict
-  plan-refused told = stage-refused _ (in-stages p d lent) refl (conclude-refused (planCheck p) _ _ _ _ (sym (read .answer) ∙ told))
+  plan-refused rest told = stage-refused _ (in-stages p d rest) refl (conclude-refused (planCheck p) _ _ _ _ (sym (read .answer) ∙ told))
 
   module _ {symbols nodes steps : ℕ} (told : reading .answer ≡ Accepted symbols nodes steps) where
     plan-accepted : (planCheck p ≡ Pass) × (accepted (planOf p) ≡ Accepted symbols nodes steps)
     unfolding verdict
     plan-accepted = conclude-accepted _ _ _ _ _ (sym (read .answer) ∙ told)
 
-    plan-passed : evaluationCheck p d lent ≡ (frameCheck (planOf p) d then contentsCheck (planOf p) (dataOf d) then outputCheck (planOf p) (dataOf d) lent)
-    plan-passed = stage-passed _ (in-stages p d lent) refl (plan-accepted .0)
+    plan-passed : (rest : Outcome) → (inputsCheck p d then rest) ≡ (frameCheck (planOf p) d then contentsCheck (planOf p) (dataOf d) then rest)
+    plan-passed rest = stage-passed _ (in-stages p d rest) refl (plan-accepted .0)
 
     -- the data set's layout
     module _ {layout : DataLayout} (laid : LayoutRead (planOf p) d layout) where
-      pub layout-refused : {r : Refusal} → layout .outcome ≡ Refuse r → Refuse r ≡ evaluationCheck p d lent
-      layout-refused = stage-refused _ plan-passed (laid .outcome)
+      pub layout-refused : (rest : Outcome) {r : Refusal} → layout .outcome ≡ Refuse r → Refuse r ≡ (inputsCheck p d then rest)
+      layout-refused rest = stage-refused _ (plan-passed rest) (laid .outcome)
 
       module _ (passed : layout .outcome ≡ Pass) where
         pub contents-ready : ContentsReady p (reading .frame) d layout
@@ -92,38 +70,61 @@ module _ (p d : Bytes) (lent : ℕ) {reading : Reading} (read : ReadPromise p re
 
         -- its contents
         module _ {contents : Outcome} (checked : contents ≡ contentsCheck (planOf p) (dataOf d)) where
-          pub contents-refused : {r : Refusal} → contents ≡ Refuse r → Refuse r ≡ evaluationCheck p d lent
-          contents-refused = stage-refused _ (stage-passed _ plan-passed (laid .outcome) passed) checked
+          pub contents-refused : (rest : Outcome) {r : Refusal} → contents ≡ Refuse r → Refuse r ≡ (inputsCheck p d then rest)
+          contents-refused rest = stage-refused _ (stage-passed _ (plan-passed rest) (laid .outcome) passed) checked
 
-          module _ (fitting : contents ≡ Pass) {N : ℕ} (counted : N ≡ pieces (dataOf d)) where
-            fits : dataCheck (planOf p) d ≡ Pass
-            fits = data-in-parts (planOf p) d ∙ passes-then (sym (laid .outcome) ∙ passed) (sym checked ∙ fitting)
+          pub inputs-passed : contents ≡ Pass → InputsPassed p reading d layout
+          unfolding inputsCheck
+          inputs-passed fitting =
+              let fits = data-in-parts (planOf p) d ∙ passes-then (sym (laid .outcome) ∙ passed) (sym checked ∙ fitting) in
+              record {
+                passes = passes-then (plan-accepted .0) fits;
+                answer-is = told ∙ sym (plan-accepted .1);
+                ready = record { accepted = read .accepted _ _ _ told; fits = fits; placed = laid .placed passed };
+              }
 
-            needed : nodes * N * 8 ≡ wordsNeeded (planOf p) (dataOf d)
-            needed = let h = plan-accepted .1 in let e : nodes ≡ nodeCount (planOf p) = cc in rw (e, counted)
+-- the rest decides once the inputs passed
+module _ {p : Bytes} {reading : Reading} {d : Bytes} {layout : DataLayout} (inputs : InputsPassed p reading d layout) where
+  pub rest-decides : (rest : Outcome) → (inputsCheck p d then rest) ≡ rest
+  rest-decides rest = stage-passed rest refl refl (inputs .passes)
 
-            pub needed-few : nodes * N ≤ 768
-            unfolding inputsCheck
-            needed-few = let few = words-most p d (inputs-accepted p d (passes-then (plan-accepted .0) fits)) in let e = needed in omega arith
+  module _ {symbols nodes steps : ℕ} (told : reading .answer ≡ Accepted symbols nodes steps) where
+    pub accepted-is : accepted (planOf p) ≡ Accepted symbols nodes steps
+    accepted-is = sym (inputs .answer-is) ∙ told
 
-            decides : evaluationCheck p d lent ≡ outputCheck (planOf p) (dataOf d) lent
-            decides = stage-passed _ (stage-passed _ plan-passed (laid .outcome) passed) checked fitting
+    pub nodes-are : nodes ≡ nodeCount (planOf p)
+    nodes-are = let h = accepted-is in cc
 
-            -- the number of words
-            pub words-lacking : lent < nodes * N * 8 → Refuse (OutputTooSmall (nodes * N * 8)) ≡ evaluationCheck p d lent
-            unfolding require
-            words-lacking few =
-                let short : (wordsNeeded (planOf p) (dataOf d) ≤? lent) ≡ false = fails (refuted (λ m. let l = most m in let e = needed in absurd (omega arith))) in
-                sym (decides ∙ rw (needed, short))
+    -- the number of words
+    module _ {N : ℕ} (counted : N ≡ pieces (dataOf d)) where
+      needed : nodes * N * 8 ≡ wordsNeeded (planOf p) (dataOf d)
+      needed = rw (nodes-are, counted)
 
-            module _ (enough : nodes * N * 8 ≤ lent) where
-              pub words-ready : WordsReady p reading d layout lent
-              words-ready = let e = needed in record { accepted = read .accepted _ _ _ told; fits = fits; placed = laid .placed passed; enough = omega arith }
+      pub needed-few : nodes * N ≤ 768
+      needed-few = let few = words-most p d (inputs-accepted p d (inputs .passes)) in let e = needed in omega arith
 
-              passes : evaluationCheck p d lent ≡ Pass
-              passes = let e = needed in decides ∙ required _ _ (most! (omega arith))
+      module _ (lent : ℕ) where
+        pub words-lacking : lent < nodes * N * 8 → Refuse (OutputTooSmall (nodes * N * 8)) ≡ (inputsCheck p d then outputCheck (planOf p) (dataOf d) lent)
+        unfolding require
+        words-lacking few =
+            let short : (wordsNeeded (planOf p) (dataOf d) ≤? lent) ≡ false = fails (refuted (λ m. let l = most m in let e = needed in absurd (omega arith))) in
+            sym (rest-decides _ ∙ rw (needed, short))
 
-              pub words-filled : (old : List ℕ) → length old ≡ lent → {new : List ℕ} → new ≡ filledWords (planOf p) (dataOf d) old →
-                  EvaluationPromise p d old new (Accepted symbols nodes steps)
-              unfolding evaluation conclude
-              words-filled old is filled = evaluation-promise p d old _ _ (rw (is, passes) (sym (plan-accepted .1))) filled
+        module _ (enough : nodes * N * 8 ≤ lent) where
+          pub words-ready : WordsReady p reading d layout lent
+          words-ready = let e = needed in record { inputs = inputs .ready; enough = omega arith }
+
+          words-passed : evaluationCheck p d lent ≡ Pass
+          unfolding evaluationCheck
+          words-passed = let e = needed in rest-decides _ ∙ required _ _ (most! (omega arith))
+
+          pub words-filled : (old : List ℕ) → length old ≡ lent → {new : List ℕ} → new ≡ filledWords (planOf p) (dataOf d) old →
+              EvaluationPromise p d old new (Accepted symbols nodes steps)
+          unfolding evaluation conclude
+          words-filled old is filled = evaluation-promise p d old _ _ (rw (is, words-passed) (sym accepted-is)) filled
+
+-- the promise of an evaluation that is refused
+module _ (p d : Bytes) (old : List ℕ) where
+  pub refusal-given : {r : Refusal} → Refuse r ≡ (inputsCheck p d then outputCheck (planOf p) (dataOf d) (length old)) → EvaluationPromise p d old old (Refused r)
+  unfolding evaluation evaluationCheck conclude
+  refusal-given h = evaluation-promise p d old old _ (rw (sym h)) refl

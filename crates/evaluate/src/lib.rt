@@ -12,8 +12,8 @@ ghost use lib.ListN.{length};
 ghost use Rattle.model.specs.Evaluation.{MOST_WORDS};
 ghost use Rattle.model.specs.Promises.{EvaluationPromise, JudgementPromise};
 
-mod data;
-mod words;
+pub mod data;
+pub mod words;
 
 // Evaluates a plan over a data set into the lent words, written only where every refusal is ruled out.
 pub fn evaluate(plan: &[u8], data: &[u8], words: &mut [u64]) -> Answer

@@ -7,18 +7,28 @@ use primitives::sections::MEMBERS;
 use primitives::sections::NODES;
 use primitives::sections::SIZES;
 use primitives::sections::section_body;
-use subregions::fill::fill_all;
+use subregions::Span;
+use subregions::fill::fill_nodes;
 ghost use mathlib.Core.Path.{_≡_};
+ghost use Prim.Native.Nat.{_+_};
 ghost use lib.ListN.{length};
 ghost use Rattle.model.specs.Layout.{planOf};
 ghost use Rattle.model.specs.DataSets.{dataOf};
 ghost use Rattle.model.specs.Evaluation.{filledWords};
-ghost use Rattle.evaluate.specs.Words.{WordsReady};
+ghost use Rattle.subregions.specs.Fill.{spanFilled};
+ghost use Rattle.evaluate.specs.Words.{SpanReady, WordsReady, PieceReady, pieceFilled};
 
-// Fills the words of every node of inputs that were accepted.
-pub fn fill_words(plan: &[u8], reading: Reading, data: &[u8], layout: DataLayout, words: &mut [u64])
-    requires { ⌜ WordsReady (now plan) reading (now «data») layout (length (now words)) ⌝ }
-    ensures { λ _. ⌜ now (words .exit) ≡ filledWords (planOf (now (plan .entry))) (dataOf (now («data» .entry))) (now (words .entry)) ⌝ }
+// Fills the words of a span of inputs that were accepted.
+fn fill_span(
+    plan: &[u8],
+    reading: Reading,
+    data: &[u8],
+    layout: DataLayout,
+    span: Span,
+    words: &mut [u64],
+)
+    requires { ⌜ SpanReady (now plan) reading (now «data») layout span (length (now words)) ⌝ }
+    ensures { λ _. ⌜ now (words .exit) ≡ spanFilled (planOf (now (plan .entry))) (dataOf (now («data» .entry))) span (now (words .entry)) ⌝ }
 {
     let nodes = section_body(plan, reading.frame, NODES);
     let node_regions = reading.node_regions;
@@ -28,7 +38,7 @@ pub fn fill_words(plan: &[u8], reading: Reading, data: &[u8], layout: DataLayout
     let members = section_body(data, frame, MEMBERS);
     let entry_starts = layout.entry_starts;
     let member_starts = layout.member_starts;
-    fill_all(
+    fill_nodes(
         words,
         nodes,
         &node_regions,
@@ -37,6 +47,44 @@ pub fn fill_words(plan: &[u8], reading: Reading, data: &[u8], layout: DataLayout
         members,
         &entry_starts,
         &member_starts,
-        piece_count(data),
+        span,
     );
+}
+
+// Fills the words of every node.
+pub fn fill_words(plan: &[u8], reading: Reading, data: &[u8], layout: DataLayout, words: &mut [u64])
+    requires { ⌜ WordsReady (now plan) reading (now «data») layout (length (now words)) ⌝ }
+    ensures { λ _. ⌜ now (words .exit) ≡ filledWords (planOf (now (plan .entry))) (dataOf (now («data» .entry))) (now (words .entry)) ⌝ }
+{
+    let nodes = section_body(plan, reading.frame, NODES);
+    let pieces = piece_count(data);
+    let span = Span {
+        nodes: nodes.len() / 4,
+        pieces,
+        first: 0,
+        count: pieces,
+    };
+    fill_span(plan, reading, data, layout, span, words);
+}
+
+// Fills one piece of each node up to the one asked for, eight words a node.
+pub fn fill_piece(
+    plan: &[u8],
+    reading: Reading,
+    data: &[u8],
+    layout: DataLayout,
+    node: usize,
+    piece: usize,
+    words: &mut [u64],
+)
+    requires { ⌜ PieceReady (now plan) reading (now «data») layout node piece (length (now words)) ⌝ }
+    ensures { λ _. ⌜ now (words .exit) ≡ pieceFilled (planOf (now (plan .entry))) (dataOf (now («data» .entry))) piece (node + 1) (now (words .entry)) ⌝ }
+{
+    let span = Span {
+        nodes: node + 1,
+        pieces: piece_count(data),
+        first: piece,
+        count: 1,
+    };
+    fill_span(plan, reading, data, layout, span, words);
 }

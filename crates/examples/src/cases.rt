@@ -7,8 +7,10 @@ use crate::actions::run_evaluate;
 use crate::building::Place;
 use crate::building::Unit;
 use crate::building::extend;
+use crate::explaining::read_request;
+use crate::explaining::run_explain;
+use crate::tokens::next_number;
 use crate::tokens::next_word;
-use crate::tokens::number;
 use check::same;
 ghost use Prim.Native.Nat.{_≤_};
 ghost use lib.ListN.{length};
@@ -23,6 +25,7 @@ pub enum Keyword {
     Times,
     Check,
     Evaluate,
+    Explain,
     Item,
     Unknown,
 }
@@ -63,6 +66,9 @@ fn action_of(word: &[u8]) -> Keyword {
     }
     if same(word, b"evaluate") {
         return Keyword::Evaluate;
+    }
+    if same(word, b"explain") {
+        return Keyword::Explain;
     }
     if same(word, b"times") {
         return Keyword::Times;
@@ -188,10 +194,9 @@ fn append_times(
 ) -> Progress
     requires { ⌜ from ≤ length (now line) ⌝ }
 {
-    let word = next_word(line, from);
-    let start = word.from;
-    let end = word.to;
-    let mut left = number(&line[start..end]);
+    let times = next_number(line, from, 0);
+    let end = times.to;
+    let mut left = times.value;
     let mut next = progress;
     while left > 0 {
         next = append_rest(next, false, line, end, plan, data);
@@ -204,14 +209,7 @@ fn append_times(
 fn words_lent(line: &[u8], from: usize) -> usize
     requires { ⌜ from ≤ length (now line) ⌝ }
 {
-    let word = next_word(line, from);
-    let start = word.from;
-    let end = word.to;
-    if start == end {
-        6144
-    } else {
-        number(&line[start..end])
-    }
+    next_number(line, from, 6144).value
 }
 
 // The rest of a line, from its next word on.
@@ -241,6 +239,11 @@ fn run_action(
             first_bytes(plan, progress.plan.end),
             first_bytes(data, progress.data.end),
             words_lent(line, from),
+        ),
+        Keyword::Explain => run_explain(
+            first_bytes(plan, progress.plan.end),
+            first_bytes(data, progress.data.end),
+            read_request(line, from),
         ),
         _ => print_unknown(line),
     }

@@ -12,10 +12,14 @@
 //   check                     checks the plan and prints the answer
 //   evaluate N                evaluates it over the data set with N words lent, 6144 if N is left out, and prints the answer
 //                             and, after an acceptance, the members of each node's pieces
+//   explain N P E [A [B]]     explains why piece P of node N holds element E, with A places lent for nodes and B for elements,
+//                             48 and as many as A if left out, and prints the answer and the chain's pairs; then changed,
+//                             if a place that is not of the chain is
 //   a number, a piece         belongs to the section that is open
 mod actions;
 mod building;
 mod cases;
+mod explaining;
 mod tokens;
 
 use cases::nothing_built;

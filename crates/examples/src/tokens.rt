@@ -9,6 +9,12 @@ pub struct Span {
     pub to: usize,
 }
 
+// A number of a line, and where its word ends.
+pub struct Numeral {
+    pub value: usize,
+    pub to: usize,
+}
+
 // The first place, from one on, that holds a byte; the length if none does.
 pub fn find(s: &[u8], from: usize, byte: u8) -> usize
     requires { ⌜ from ≤ length (now s) ⌝ }
@@ -51,20 +57,42 @@ pub fn next_word(line: &[u8], from: usize) -> Span
     }
 }
 
-// A word as a number: 65535 for none. Numbers beyond 65535 are none of the format's.
-pub fn number(word: &[u8]) -> usize
-    ensures { λ r. ⌜ r < 65536 ⌝ }
-{
+// A word as a number: 65535 for none, and the greatest of 64 bits for any that is not below it.
+pub fn number(word: &[u8]) -> usize {
     if check::same(word, b"none") {
         return 65535;
     }
     let mut value = 0;
     let mut at = 0;
     while at < word.len() {
-        value = (value * 10 + digit(word[at])) % 65536;
+        let last = digit(word[at]);
+        if value > (18446744073709551615 - last) / 10 {
+            return 18446744073709551615;
+        }
+        value = value * 10 + last;
         at += 1;
     }
     value
+}
+
+// The next number from a place on; another value at the line's end.
+pub fn next_number(line: &[u8], from: usize, otherwise: usize) -> Numeral
+    requires { ⌜ from ≤ length (now line) ⌝ }
+    ensures { λ r. ⌜ r .to ≤ length (now (line .entry)) ⌝ }
+{
+    let word = next_word(line, from);
+    let start = word.from;
+    let end = word.to;
+    if start == end {
+        return Numeral {
+            value: otherwise,
+            to: end,
+        };
+    }
+    Numeral {
+        value: number(&line[start..end]),
+        to: end,
+    }
 }
 
 // The value of a digit; 0 for another byte.

@@ -6,6 +6,7 @@ use lib.ListN.{length, take}
 use Rattle.model.specs.Tests.{_==_, _<?_, pick}
 use Rattle.model.specs.Words.{holds}
 use Rattle.model.specs.declared.Report.{Report}
+use Rattle.model.specs.declared.WrittenReport.{WrittenReport}
 
 abbrev pub Text : Type 0
 Text = List ℕ
@@ -45,6 +46,17 @@ membersText words at (suc n) = membersText words at n ++ memberText words at n
 -- "Then symbol, piece, colon, members": the line of a piece whose words stand from `at` on
 unfoldable pub pieceText : ℕ → ℕ → List ℕ → ℕ → Text
 pieceText number piece words at = decimal number ++ spaced piece ++ (58 ∷ []) ++ membersText words at 512 ++ (10 ∷ [])
+
+-- "explained", then the chain's length; a refusal as above
+unfoldable pub explainedText : ℕ → Text
+explainedText n = (101 ∷ 120 ∷ 112 ∷ 108 ∷ 97 ∷ 105 ∷ 110 ∷ 101 ∷ 100 ∷ []) ++ spaced n ++ (10 ∷ [])
+
+unfoldable pub explanationText : WrittenReport → Text
+explanationText t = pick (t .number == 0) (explainedText (t .length)) (refusedText (t .number) (t .place))
+
+-- the line of a chain's pair: its node, its element
+unfoldable pub pairText : ℕ → ℕ → Text
+pairText node element = decimal node ++ spaced element ++ (10 ∷ [])
 
 -- the text was put behind the first `at` bytes of a line, and ends at `end`
 pub record Appended (before after : Text) (at : ℕ) (text : Text) (end : ℕ) : Type 0 where

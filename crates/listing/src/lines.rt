@@ -5,11 +5,13 @@ use crate::text::append_bytes;
 use crate::text::append_decimal;
 use crate::text::append_spaced;
 use answers::report_answer;
+use answers::report_written;
 use model::Answer;
+use model::Written;
 ghost use Prim.Native.Nat.{_≤_};
 ghost use lib.ListN.{length};
-ghost use Rattle.model.specs.Answers.{report};
-ghost use Rattle.listing.specs.Text.{acceptedText, refusedText, answerText, pieceText, Shown};
+ghost use Rattle.model.specs.Answers.{report, writtenReport};
+ghost use Rattle.listing.specs.Text.{acceptedText, refusedText, answerText, pieceText, explainedText, explanationText, pairText, Shown};
 
 // The line of an acceptance: symbols, nodes, steps.
 fn accepted_line(line: &mut [u8], symbols: usize, nodes: usize, steps: usize) -> usize
@@ -62,5 +64,38 @@ pub fn piece_line(
     let end = append_spaced(line, end, piece);
     let end = append_byte(line, end, b':');
     let end = append_members(line, end, words, first);
+    append_byte(line, end, b'\n')
+}
+
+// The line of an explanation: its chain's length.
+fn explained_line(line: &mut [u8], pairs: usize) -> usize
+    requires { ⌜ 12288 ≤ length (now line) ⌝ }
+    ensures { λ r. ⌜ Shown (now (line .exit)) (explainedText pairs) r ⌝ }
+{
+    let end = append_bytes(line, 0, b"explained");
+    let end = append_spaced(line, end, pairs);
+    append_byte(line, end, b'\n')
+}
+
+// The line of an explanation or of its refusal.
+pub fn explanation_line(line: &mut [u8], answer: Written) -> usize
+    requires { ⌜ 12288 ≤ length (now line) ⌝ }
+    ensures { λ r. ⌜ Shown (now (line .exit)) (explanationText (writtenReport answer)) r ⌝ }
+{
+    let written = report_written(answer);
+    if written.number == 0 {
+        explained_line(line, written.length)
+    } else {
+        refused_line(line, written.number, written.place)
+    }
+}
+
+// The line of a chain's pair: node, element.
+pub fn pair_line(line: &mut [u8], node: usize, element: usize) -> usize
+    requires { ⌜ 12288 ≤ length (now line) ⌝ }
+    ensures { λ r. ⌜ Shown (now (line .exit)) (pairText node element) r ⌝ }
+{
+    let end = append_decimal(line, 0, node);
+    let end = append_spaced(line, end, element);
     append_byte(line, end, b'\n')
 }

@@ -7,12 +7,15 @@ use lib.ListN.{length}
 use Rattle.model.specs.Bytes.{Bytes}
 use Rattle.model.specs.Verdict.{verdict}
 use Rattle.model.specs.Evaluation.{evaluation}
-use Rattle.model.specs.Packed.{Packing, packedBy, unpackedBy, answerPacking, packed}
-use Rattle.model.specs.Promises.{CheckPromise, EvaluationPromise}
+use Rattle.model.specs.Provenance.{explanation}
+use Rattle.model.specs.Packed.{Packing, packedBy, unpackedBy, answerPacking, packed, writtenPacking}
+use Rattle.model.specs.Promises.{CheckPromise, EvaluationPromise, ExplanationPromise}
 use Rattle.model.specs.declared.Answer.{Answer}
-use Rattle.model.proofs.Answers.{report-injective}
-use Rattle.model.proofs.Packed.{verdict-read, evaluation-read}
-use Rattle.mavisglen.specs.Exported.{Exported, ExportedCheck, ExportedEvaluation}
+use Rattle.model.specs.declared.Question.{Question}
+use Rattle.model.specs.declared.Written.{Written}
+use Rattle.model.proofs.Answers.{report-injective, written-injective}
+use Rattle.model.proofs.Packed.{verdict-read, evaluation-read, explanation-read}
+use Rattle.mavisglen.specs.Exported.{Exported, ExportedCheck, ExportedEvaluation, ExportedExplanation}
 
 -- for answers of any type that what they report determines; `defined` is what the definition answers
 exported :
@@ -35,3 +38,10 @@ module _ (result : ℕ) (r : Answer) (e : result ≡ packed r) where
   exported-evaluation p d old new h =
       exported answerPacking report-injective (EvaluationPromise p d old new) result r (evaluation p d (length old)) e (h .answer)
       (evaluation-read p d (length old)) h
+
+pub exported-explanation :
+    (result : ℕ) (r : Written) → result ≡ packedBy writtenPacking r → (p d : Bytes) (q : Question) (oldNodes newNodes oldElements newElements : List ℕ) →
+    ExplanationPromise p d q oldNodes newNodes oldElements newElements r → ExportedExplanation p d q oldNodes newNodes oldElements newElements result
+exported-explanation result r e p d q oldNodes newNodes oldElements newElements h =
+    exported writtenPacking written-injective (ExplanationPromise p d q oldNodes newNodes oldElements newElements) result r
+    (explanation p d q (length oldNodes) (length oldElements)) e (h .answer) (explanation-read p d q (length oldNodes) (length oldElements)) h

@@ -3,8 +3,9 @@ use Prim.Native.Nat.{ℕ}
 use mathlib.Core.Path.{_≡_}
 use mathlib.Core.List.{List}
 use Rattle.model.specs.Bytes.{Bytes}
-use Rattle.model.specs.Packed.{Packing, packedBy, unpackedBy, answerPacking}
-use Rattle.model.specs.Promises.{CheckPromise, EvaluationPromise}
+use Rattle.model.specs.Packed.{Packing, packedBy, unpackedBy, answerPacking, writtenPacking}
+use Rattle.model.specs.Promises.{CheckPromise, EvaluationPromise, ExplanationPromise}
+use Rattle.model.specs.declared.Question.{Question}
 
 -- the number returned is that of an answer which keeps the entry point's whole promise, and a caller reads from it what the answer reports
 pub record Exported {A R : Type 0} (packing : Packing A R) (Promise : A → Type 0) (result : ℕ) : Type 0 where
@@ -20,3 +21,8 @@ ExportedCheck p = Exported answerPacking (CheckPromise p)
 -- evaluating plan p over data set d into words that held `old`: the promise of `evaluate`, with the words `new` that it leaves
 abbrev pub ExportedEvaluation : Bytes → Bytes → List ℕ → List ℕ → ℕ → Type 0
 ExportedEvaluation p d old new = Exported answerPacking (EvaluationPromise p d old new)
+
+-- explaining what q asks into slices that held the old lists: the promise of `explain`, with the new ones that it leaves
+abbrev pub ExportedExplanation : Bytes → Bytes → Question → List ℕ → List ℕ → List ℕ → List ℕ → ℕ → Type 0
+ExportedExplanation p d q oldNodes newNodes oldElements newElements =
+    Exported writtenPacking (ExplanationPromise p d q oldNodes newNodes oldElements newElements)

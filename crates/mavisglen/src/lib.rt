@@ -1,9 +1,11 @@
 // The entry points for C and Rust: an answer comes as one number.
 use model::Answer;
 use model::Refusal;
+use model::Written;
 ghost use mathlib.Core.Path.{_≡_};
-ghost use Rattle.model.specs.Packed.{tagged, pack as packedTag, refusalTag, packed};
-ghost use Rattle.mavisglen.specs.Exported.{ExportedCheck, ExportedEvaluation};
+ghost use Rattle.model.specs.Packed.{tagged, pack as packedTag, refusalTag, packed, packedBy, writtenPacking};
+ghost use Rattle.model.specs.Provenance.{asking};
+ghost use Rattle.mavisglen.specs.Exported.{ExportedCheck, ExportedEvaluation, ExportedExplanation};
 
 // Checks a plan.
 #[no_mangle]
@@ -23,6 +25,23 @@ pub extern "C" fn mavisglen_evaluate(plan: &[u8], data: &[u8], words: &mut [u64]
     pack_answer(answer)
 }
 
+// Explains why a piece of a node holds an element, by a chain of pairs in two lent slices.
+#[no_mangle]
+pub extern "C" fn mavisglen_explain(
+    plan: &[u8],
+    data: &[u8],
+    node: usize,
+    piece: usize,
+    element: usize,
+    nodes: &mut [u16],
+    elements: &mut [u16],
+) -> u64
+    ensures { λ r. ⌜ ExportedExplanation (now (plan .entry)) (now («data» .entry)) (asking node piece element) (now (nodes .entry)) (now (nodes .exit)) (now (elements .entry)) (now (elements .exit)) r ⌝ }
+{
+    let answer = provenance::explain(plan, data, node, piece, element, nodes, elements);
+    pack_written(answer)
+}
+
 // An acceptance: number 0, and the counts in 8 bits each.
 fn pack_answer(answer: Answer) -> u64
     ensures { λ r. ⌜ r ≡ packed answer ⌝ }
@@ -34,6 +53,16 @@ fn pack_answer(answer: Answer) -> u64
             steps,
         } => pack(0, symbols % 256 + (nodes % 256 << 8) + (steps % 256 << 16)),
         Answer::Refused(refusal) => pack_refusal(refusal),
+    }
+}
+
+// What was written: number 0, and the length.
+fn pack_written(answer: Written) -> u64
+    ensures { λ r. ⌜ r ≡ packedBy writtenPacking answer ⌝ }
+{
+    match answer {
+        Written::Length(length) => pack(0, length),
+        Written::Refused(refusal) => pack_refusal(refusal),
     }
 }
 

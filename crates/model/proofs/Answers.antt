@@ -1,25 +1,27 @@
 -- No value of an answer is free: what it tells determines it. Assumes nothing.
 use Prim.Native.Nat.{ℕ, zero, suc, _≤_, _<_}
-use mathlib.Core.Path.{_≡_, refl, sym, _∙_, ap}
+use mathlib.Core.Path.{_≡_, refl, sym, _∙_, ap, ap₂}
 use mathlib.Core.Logic.{inl, inr}
 use mathlib.Core.List.{List, [], _∷_, map}
 use native.Mathlib.Omega.{arith}
 use lib.ListN.{getD, List·getD-eq-default}
 use Rattle.model.specs.Tests.{_<?_}
-use Rattle.model.specs.Answers.{refusal, refusalReport, report}
+use Rattle.model.specs.Answers.{refusal, refusalReport, report, writtenReport}
 use Rattle.model.specs.declared.Refusal.{Refusal}
-use Rattle.model.specs.declared.Refusal.the-variants.{Truncated, UnknownEdition, TrailingBytes, InvalidLength, InvalidRecord, RegionMismatch, DuplicateNode, NotParallelizable, AssignmentCount, UnlicensedStep, UnmetNeed, InvalidData, InvalidEntry, InvalidPartition, OutputTooSmall}
+use Rattle.model.specs.declared.Refusal.the-variants.{Truncated, UnknownEdition, TrailingBytes, InvalidLength, InvalidRecord, RegionMismatch, DuplicateNode, NotParallelizable, AssignmentCount, UnlicensedStep, UnmetNeed, InvalidData, InvalidEntry, InvalidPartition, OutputTooSmall, NotFound}
 use Rattle.model.specs.declared.Outcome.{Outcome}
 use Rattle.model.specs.declared.Outcome.the-variants.{Pass, Refuse}
 use Rattle.model.specs.declared.Answer.{Answer}
 use Rattle.model.specs.declared.Answer.the-variants.{Accepted, Refused}
+use Rattle.model.specs.declared.Written.{Written}
+use Rattle.model.specs.declared.Written.the-variants as written
 use Rattle.model.proofs.Tests.{split, lacks, less, less! }
 
 -- the refusals in the order of their numbers, each by its place
 unfoldable refusals : List (ℕ → Refusal)
 refusals =
     Truncated ∷ (λ p. UnknownEdition) ∷ TrailingBytes ∷ InvalidLength ∷ InvalidRecord ∷ RegionMismatch ∷ DuplicateNode ∷ NotParallelizable ∷
-    AssignmentCount ∷ UnlicensedStep ∷ UnmetNeed ∷ (λ p. InvalidData) ∷ InvalidEntry ∷ InvalidPartition ∷ OutputTooSmall ∷ []
+    AssignmentCount ∷ UnlicensedStep ∷ UnmetNeed ∷ (λ p. InvalidData) ∷ InvalidEntry ∷ InvalidPartition ∷ OutputTooSmall ∷ NotFound ∷ []
 
 -- the refusal of a number at a place; 0 and the numbers past the last stand for none
 unfoldable refusalAt : ℕ → ℕ → Outcome
@@ -48,6 +50,7 @@ stands-for InvalidData = (refl, refl)
 stands-for (InvalidEntry p) = (refl, refl)
 stands-for (InvalidPartition p) = (refl, refl)
 stands-for (OutputTooSmall p) = (refl, refl)
+stands-for (NotFound p) = (refl, refl)
 
 -- a number that stands for a refusal is one of the table's: 0 is left to acceptance, 255 to no answer of these
 number-of : (r : Refusal) (n p : ℕ) → refusalAt n p ≡ Refuse r → (1 ≤ n) × (n < 255)
@@ -73,8 +76,13 @@ module _ (r : Refusal) where
   pub number-in-table : (1 ≤ refusalReport r .number) × (refusalReport r .number < 255)
   number-in-table = number-of r _ _ stands
 
+-- number and place determine it
+pub place-injective :
+    (a b : Refusal) → refusalReport a .number ≡ refusalReport b .number → refusalReport a .place ≡ refusalReport b .place → a ≡ b
+place-injective a b n p = let both : Refuse a ≡ Refuse b = sym (stands a) ∙ ap₂ refusalAt n p ∙ stands b in cc
+
 pub refusal-injective : (a b : Refusal) → refusalReport a ≡ refusalReport b → a ≡ b
-refusal-injective a b e = let both : Refuse a ≡ Refuse b = sym (stands a) ∙ ap (λ t. refusalAt (t .number) (t .place)) e ∙ stands b in cc
+refusal-injective a b e = place-injective a b (ap (λ t. t .number) e) (ap (λ t. t .place) e)
 
 pub report-injective : (a b : Answer) → report a ≡ report b → a ≡ b
 unfolding report
@@ -83,3 +91,12 @@ report-injective (Accepted s n t) (Accepted s' n' t') e =
 report-injective (Accepted s n t) (Refused b) e = absurd (omega (arith, ap (λ t. t .number) e, number-in-table b .0))
 report-injective (Refused a) (Accepted s n t) e = absurd (omega (arith, ap (λ t. t .number) e, number-in-table a .0))
 report-injective (Refused a) (Refused b) e = ap Refused (refusal-injective a b e)
+
+-- and of an answer about what was written
+pub written-injective : (a b : Written) → writtenReport a ≡ writtenReport b → a ≡ b
+unfolding writtenReport
+written-injective (written.Length n) (written.Length m) e = ap written.Length (ap (λ t. t .length) e)
+written-injective (written.Length n) (written.Refused b) e = absurd (omega (arith, ap (λ t. t .number) e, number-in-table b .0))
+written-injective (written.Refused a) (written.Length m) e = absurd (omega (arith, ap (λ t. t .number) e, number-in-table a .0))
+written-injective (written.Refused a) (written.Refused b) e =
+    ap written.Refused (place-injective a b (ap (λ t. t .number) e) (ap (λ t. t .place) e))

@@ -12,8 +12,13 @@ use Rattle.model.specs.Verdict.{verdict}
 use Rattle.model.specs.DataSets.{dataOf, pieces, size, dataCheck}
 use Rattle.model.specs.Membership.{member}
 use Rattle.model.specs.Evaluation.{evaluation}
+use Rattle.model.specs.Provenance.{asking, explanation, nodesAfter, elementsAfter}
 use Rattle.model.specs.declared.Outcome.the-variants.{Pass}
 use Rattle.model.specs.declared.Report.{Report}
+use Rattle.model.specs.declared.Refusal.the-variants.{InvalidData, OutputTooSmall, NotFound}
+use Rattle.model.specs.declared.Question.{Question}
+use Rattle.model.specs.declared.Written.{Written}
+use Rattle.model.specs.declared.Written.the-variants.{Length, Refused}
 use Rattle.model.proofs.Computing.{definitions}
 use Rattle.model.proofs.FiledPlans.{planA, planA-stepless, planA-written, planB, planB-partial, dataD}
 
@@ -94,3 +99,28 @@ pub filed-evaluations :
     × (dataCheck (planOf planB) dataD ≡ Pass) × (evaluated planB 48 ≡ accepts 4 3 4) × (evaluated planB 47 ≡ refuses 15 48)
 unfolding definitions
 filed-evaluations = (refl, refl, refl, refl, refl, refl)
+
+-- why pieces of A's and B's nodes hold elements, over D: the answer, and what slices of three places, which held 9, hold then
+pub record Explained : Type 0 where
+  pub answered : Written
+  pub nodes : List ℕ
+  pub elements : List ℕ
+
+abbrev pub explained : Bytes → Question → Explained
+explained p q =
+    let r = explanation p dataD q 3 3 in
+    let old : List ℕ = 9 ∷ 9 ∷ 9 ∷ [] in
+    record { answered = r; nodes = nodesAfter p dataD q old r; elements = elementsAfter p dataD q old r }
+
+pub filed-explanations :
+    (explained planA (asking 1 1 2) ≡ record { answered = Length 2; nodes = 1 ∷ 0 ∷ 9 ∷ []; elements = 2 ∷ 4 ∷ 9 ∷ [] })
+    × (explained planB (asking 2 0 1) ≡ record { answered = Length 3; nodes = 2 ∷ 1 ∷ 0 ∷ []; elements = 1 ∷ 3 ∷ 1 ∷ [] })
+    × (explained planA (asking 1 0 1) ≡ record { answered = Refused (NotFound 4); nodes = 9 ∷ 9 ∷ 9 ∷ []; elements = 9 ∷ 9 ∷ 9 ∷ [] })
+    × (explanation planA dataD (asking 2 2 9) 3 3 ≡ Refused (NotFound 1))
+    × (explanation planA dataD (asking 1 2 9) 3 3 ≡ Refused (NotFound 2))
+    × (explanation planA dataD (asking 1 1 3) 3 3 ≡ Refused (NotFound 3))
+    × (explanation planA dataD (asking 1 1 2) 1 2 ≡ Refused (OutputTooSmall 2))
+    × (explanation planA dataD (asking 1 1 2) 2 1 ≡ Refused (OutputTooSmall 2))
+    × (explanation planA [] (asking 2 2 9) 0 0 ≡ Refused InvalidData)
+unfolding definitions
+filed-explanations = (refl, refl, refl, refl, refl, refl, refl, refl, refl)

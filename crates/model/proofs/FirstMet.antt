@@ -1,14 +1,15 @@
--- "The first met is given": where checking or evaluating refuses, the table's "given when" holds of nothing that is earlier in the order.
+-- "The first met is given": where checking, evaluating or explaining refuses, the table's "given when" holds of nothing that is earlier in
+-- the order.
 -- Assumes nothing.
 use Prim.Native.Nat.{ℕ, suc, _+_, _*_, _/_, _%_, _≤_, _<_}
 use mathlib.Core.Path.{_≡_, refl, sym, _∙_}
 use mathlib.Core.Logic.{_⊎_}
 use mathlib.Core.List.{List, [], _∷_}
 use mathlib.Core.Bool.{Bool}
+use native.Mathlib.Decide.{decLt}
 use native.Mathlib.Omega.{arith}
 use lib.ListN.{getD, length}
 use Rattle.model.specs.Tests.{Is, _and_, pick, _==_, _<?_, _≤?_, every}
-use Rattle.model.specs.Answers.{refusalReport}
 use Rattle.model.specs.Bytes.{Bytes, byte, u16, boundary, body}
 use Rattle.model.specs.Outcomes.{require, _then_, scan}
 use Rattle.model.specs.Layout.{Plan, planOf, sectionCheck, layoutCheck, regionCount, mapCount, suppliedCount, statementCount, nodeCount, assignmentCount, stepCount, fields, source, target, totality, suppliedRegion, suppliedFlags, statementKind, stepLemma, stepX, stepY, stepP, stepQ}
@@ -24,8 +25,8 @@ use Rattle.model.specs.DataSets.{dataOf, size, wellFramed, entriesCheck,
 use Rattle.model.specs.LoopRelations.{HasSymbol, SymbolsBefore, SymbolRegion, NodeRegion}
 use Rattle.model.specs.PlainPlan.{SectionLength, StatementFormed, StatementAgrees, ParallelizableLoop, NodeFormed, NodeAgrees, SameNode, StepFormed, Licence, NeedsConcluded}
 use Rattle.model.specs.PlainData.{WellFramed, EntryFits, DeclarationsHold}
-use Rattle.model.specs.Evaluation.{wordsNeeded, inputsCheck, outputCheck, evaluationCheck}
-use Rattle.model.specs.GivenWhen.{RecordInvalid, RegionsDisagree, PlanGivenWhen, empty, truncated, unknown-edition, trailing-bytes, invalid-length, invalid-record, region-mismatch, duplicate-node, not-parallelizable, assignment-count, unlicensed-step, unmet-need, invalid-data, invalid-entry, invalid-partition, output-too-small, EvaluationGivenWhen, of-plan, of-data, of-output}
+use Rattle.model.specs.Evaluation.{inputsCheck, evaluationCheck}
+use Rattle.model.specs.GivenWhen.{RecordInvalid, RegionsDisagree, PlanGivenWhen, empty, truncated, unknown-edition, trailing-bytes, invalid-length, invalid-record, region-mismatch, duplicate-node, not-parallelizable, assignment-count, unlicensed-step, unmet-need, invalid-data, invalid-entry, invalid-partition, DataGivenWhen, output-too-small, EvaluationGivenWhen, of-plan, of-data, of-output}
 use Rattle.model.specs.RefusalOrder.{Turn, turnAt, turns, turn, Earlier}
 use Rattle.model.specs.declared.Refusal.{Refusal}
 use Rattle.model.specs.declared.Refusal.the-variants.{Truncated, UnknownEdition, TrailingBytes, InvalidRecord, RegionMismatch, InvalidData, InvalidPartition}
@@ -33,7 +34,7 @@ use Rattle.model.specs.declared.Outcome.{Outcome}
 use Rattle.model.specs.declared.Outcome.the-variants.{Pass, Refuse}
 use Rattle.model.proofs.Tests.{both, lacks, implied, less, most, every-at, pick-false, refuted, fails, same, _also_, Firsts, at-each}
 use Rattle.model.proofs.Outcomes.{then-assoc, passes-then, then-cases, require-pass, required, require-refuse, scan-pass, scan-refuse}
-use Rattle.model.proofs.Turns.{turnOf, stage-passed, item-passed, check-passed, not-itself, ClearUpTo, clear-test, clear-both, ReachedAt, clear-scan, Placed, placed-require, placed-then, scan-stage, clear-items}
+use Rattle.model.proofs.Turns.{turnOf, stage-passed, item-passed, check-passed, not-itself, ClearUpTo, clear-passes, clear-test, clear-first, clear-next, clear-both, ReachedAt, clear-scan, Placed, placed-require, placed-then, staged-require, scan-stage, clear-items}
 use Rattle.model.proofs.Accepted.{LaidOut, length-body, laid-out, limits}
 use Rattle.model.proofs.LayoutAgrees.{measured, section-length, region-formed, map-formed, supplied-formed}
 use Rattle.model.proofs.StatementKinds.{opens-is}
@@ -134,7 +135,7 @@ module _ (P : Plan) where
   unfolding needCheck
   unmet-symbol s q e = has-symbol P s .1 (need-symbol P s (require-refuse _ _ q e .0))
 
--- a stage of evaluating: its number in the order, which is that of some refusal, and what its checks say together
+-- a stage of the checks of plan and data set: its number in the order, which is that of some refusal, and what its checks say together
 record Stage : Type 0 where
   number : ℕ
   outcome : Outcome
@@ -142,7 +143,7 @@ record Stage : Type 0 where
 abbrev stageOf : ℕ → ℕ → Outcome → Stage
 stageOf number place outcome = record { number = turn number place .stage; outcome = outcome }
 
-module _ (p d : Bytes) (lent : ℕ) where
+module _ (p d : Bytes) where
   unfoldable stages : List Stage
   stages =
       stageOf 1 0 (require (1 ≤? length p) (Truncated 0))
@@ -162,7 +163,6 @@ module _ (p d : Bytes) (lent : ℕ) where
       ∷ stageOf 12 0 (require (wellFramed (planOf p) d) InvalidData)
       ∷ stageOf 13 0 (scan (entriesCheck (planOf p) (dataOf d)) 0 (mapCount (planOf p)))
       ∷ stageOf 14 0 (scan (λ k. require (declarationsHold (planOf p) (dataOf d) k) (InvalidPartition k)) 0 (suppliedCount (planOf p)))
-      ∷ stageOf 15 0 (outputCheck (planOf p) (dataOf d) lent)
       ∷ []
 
   -- outcome and number of a stage, counted from 0
@@ -172,16 +172,16 @@ module _ (p d : Bytes) (lent : ℕ) where
   unfoldable numberAt : ℕ → ℕ
   numberAt K = getD stages K (stageOf 0 0 Pass) .number
 
-  -- evaluating is these stages, one after the other
-  in-stages : evaluationCheck p d lent ≡ scan outcomeAt 0 18
-  unfolding evaluationCheck inputsCheck planCheck layoutCheck recordsCheck dataCheck scan outcomeAt stages
+  -- the inputs are checked by these stages, one after the other
+  in-stages : inputsCheck p d ≡ scan outcomeAt 0 17
+  unfolding inputsCheck planCheck layoutCheck recordsCheck dataCheck scan outcomeAt stages
   in-stages = simp (then-end, then-assoc)
 
   -- the stages come in the order of their numbers
-  in-order : (j K : ℕ) → K < 18 → j < K → numberAt j < numberAt K
-  in-order j K lk lj = less (every-at _ _ (every-at 18 (λ k. every k (λ j. numberAt j <? numberAt k)) ordered K lk) j lj)
+  in-order : (j K : ℕ) → K < 17 → j < K → numberAt j < numberAt K
+  in-order j K lk lj = less (every-at _ _ (every-at 17 (λ k. every k (λ j. numberAt j <? numberAt k)) ordered K lk) j lj)
     where
-      ordered : Is (every 18 (λ k. every k (λ j. numberAt j <? numberAt k)))
+      ordered : Is (every 17 (λ k. every k (λ j. numberAt j <? numberAt k)))
       ordered = unfold turn turns pick _==_ numberAt stages every _<?_ _and_ in refl
 
   -- the layout passed
@@ -194,41 +194,49 @@ module _ (p d : Bytes) (lent : ℕ) where
   abbrev Located : ℕ → Type 0
   Located j = ((i : ℕ) → i < j → outcomeAt i ≡ Pass) → (s : Refusal) → outcomeAt j ≡ Refuse s → turnOf s .stage ≡ numberAt j
 
-  located : Firsts Located 0 18
+  located : Firsts Located 0 17
   unfolding turn turns pick _==_ outcomeAt numberAt stages assignmentCountCheck entriesCheck
   located =
-      (λ b. one _ _ refl)
-      also (λ b. one _ _ refl)
+      (λ b. staged-require _ _ refl)
+      also (λ b. staged-require _ _ refl)
       also (λ b. scan-stage _ _ _ (λ n l s e. section-placed p n s e .0))
-      also (λ b. one _ _ refl)
+      also (λ b. staged-require _ _ refl)
       also (λ b. scan-stage _ _ _ (λ i l s e. region-placed (planOf p) i (omega (arith, few b (omega arith) .few-regions)) s e .0))
       also (λ b. scan-stage _ _ _ (λ i l s e. map-placed (planOf p) i (omega (arith, few b (omega arith) .few-maps)) s e .0))
       also (λ b. scan-stage _ _ _ (λ i l s e. supplied-placed (planOf p) i (omega (arith, few b (omega arith) .few-supplied)) s e .0))
       also (λ b. scan-stage _ _ _ (λ i l s e. statement-placed (planOf p) i (omega (arith, few b (omega arith) .few-statements)) s e .0))
       also (λ b. scan-stage _ _ _ (λ i l s e. loop-placed (planOf p) i s e .0))
       also (λ b. scan-stage _ _ _ (λ i l s e. node-placed (planOf p) i (omega (arith, few b (omega arith) .few-nodes)) s e .0))
-      also (λ b. one _ _ refl)
+      also (λ b. staged-require _ _ refl)
       also (λ b. scan-stage _ _ _ (λ i l s e. assignment-placed (planOf p) i (omega (arith, few b (omega arith) .few-statements)) s e .0))
       also (λ b. scan-stage _ _ _ (λ i l s e. step-placed (planOf p) i (omega (arith, few b (omega arith) .few-steps)) s e .0))
       also (λ b. scan-stage _ _ _ (λ i l s e. need-placed (planOf p) i s e .0))
-      also (λ b. one _ _ refl)
-      also (λ b. scan-stage _ _ _ (λ m l. scan-stage _ _ _ (λ k l. one _ _ refl)))
-      also (λ b. scan-stage _ _ _ (λ k l. one _ _ refl))
-      also (λ b. one _ _ refl)
+      also (λ b. staged-require _ _ refl)
+      also (λ b. scan-stage _ _ _ (λ m l. scan-stage _ _ _ (λ k l. staged-require _ _ refl)))
+      also (λ b. scan-stage _ _ _ (λ k l. staged-require _ _ refl))
       also tt
     where
-      one : (b : Bool) (q : Refusal) {stage : ℕ} → turnOf q .stage ≡ stage → (s : Refusal) → require b q ≡ Refuse s → turnOf s .stage ≡ stage
-      one b q w s e = rw (require-refuse b q s e .1) at w
-
       few : {j : ℕ} → ((i : ℕ) → i < j → outcomeAt i ≡ Pass) → 4 ≤ j → Limits (planOf p)
       few b l = limits p (laid (λ i k. b i (omega arith)))
 
-  module _ (t : Turn) (h : ClearUpTo t (evaluationCheck p d lent)) where
+  -- what the inputs are refused for comes before all that is asked after them
+  inputs-early : (s : Refusal) → inputsCheck p d ≡ Refuse s → turnOf s .stage ≤ 100
+  unfolding turn turns numberAt stages
+  inputs-early s e =
+      let w = scan-refuse outcomeAt 17 s (sym in-stages ∙ e) in
+      let at = at-each Located 0 17 located (w .at) (omega arith) (omega (arith, w .inside)) (λ i l. w .before i (omega arith) l) s (w .refuses) in
+      let few : numberAt (w .at) ≤ numberAt 16 = elim (decLt (w .at) 16) [
+        | yes l ↦ let o = in-order (w .at) 16 (omega arith) l in omega arith
+        | no l ↦ let z : w .at ≡ 16 = omega (arith, w .inside) in rw z (omega arith)
+      ] in
+      omega arith
+
+  module _ (t : Turn) (h : ClearUpTo t (inputsCheck p d)) where
     -- where nothing up to turn t is refused, the stages before it pass
-    reached : (K : ℕ) → K < 18 → numberAt K ≤ t .stage → ReachedAt t outcomeAt K
+    reached : (K : ℕ) → K < 17 → numberAt K ≤ t .stage → ReachedAt t outcomeAt K
     reached K l at =
-        clear-scan t outcomeAt 18 (rw in-stages at h) K l (λ j lj b s e.
-        let w = at-each Located 0 18 located j (omega arith) (omega arith) b s e in
+        clear-scan t outcomeAt 17 (rw in-stages at h) K l (λ j lj b s e.
+        let w = at-each Located 0 17 located j (omega arith) (omega arith) b s e in
         let o = in-order j K l lj in
         stage-passed (omega arith))
 
@@ -247,7 +255,7 @@ module _ (p d : Bytes) (lent : ℕ) where
 
     -- the records of a section up to that one
     record-reached :
-        (K k n r : ℕ) (f : ℕ → Outcome) → K < 18 → outcomeAt K ≡ scan f 0 n → numberAt K ≡ 10 * k → (Limits (planOf p) → n ≤ 256) →
+        (K k n r : ℕ) (f : ℕ → Outcome) → K < 17 → outcomeAt K ≡ scan f 0 n → numberAt K ≡ 10 * k → (Limits (planOf p) → n ≤ 256) →
         ((i : ℕ) → i < 256 → Placed (f i) (10 * k) i) → AtRecord k r → r < n → ReachedAt t f r
     record-reached K k n r f lk is number few placed (late, at) l =
         let most = few (limited late) in
@@ -315,7 +323,7 @@ module _ (p d : Bytes) (lent : ℕ) where
 
   -- the rows of the table: where nothing is refused up to a row's turn, what it is given for is not so
   abbrev Clear : ℕ → ℕ → Type 0
-  Clear number place = ClearUpTo (turn number place) (evaluationCheck p d lent)
+  Clear number place = ClearUpTo (turn number place) (inputsCheck p d)
 
   -- the layout
   some-byte : Clear 1 0 → 1 ≤ length p
@@ -481,7 +489,7 @@ module _ (p d : Bytes) (lent : ℕ) where
       let T = steps-plainly (planOf p) (B .before 12 (omega arith)) .formed in
       need-agrees (planOf p) S N A T s l .0 (clear-test _ _ (R .here) not-itself)
 
-  -- the data set and the lent words
+  -- the data set
   frame-clear : Clear 12 0 → WellFramed (planOf p) d
   unfolding turn turns pick _==_ outcomeAt numberAt stages
   frame-clear h = frame-fits (planOf p) d .0 (clear-test _ _ (reached _ h 14 (omega arith) (omega arith) .here) not-itself)
@@ -510,13 +518,6 @@ module _ (p d : Bytes) (lent : ℕ) where
       let R = clear-items _ _ _ (turn 14 k .stage) k (λ i. i) (reached _ h 16 (omega arith) (omega arith) .here) l refl
       (λ i li. placed-require _ _ (refl, refl)) (λ i s li e. li) in
       supplied-right (planOf p) (dataOf d) k .0 (clear-test _ _ (R .here) not-itself)
-
-  output-clear : (n : ℕ) → n ≡ wordsNeeded (planOf p) (dataOf d) → Clear 15 n → n ≤ lent
-  unfolding turn turns pick _==_ outcomeAt numberAt stages
-  output-clear n e h =
-      let B = reached _ h 17 (omega arith) (omega arith) in
-      let l = most (clear-test _ _ (B .here) (check-passed refl refl (omega arith))) in
-      omega arith
 
   -- nothing up to a turn is refused, and so no row is given there
   record-clear : {q : ℕ} → Clear 5 q → RecordInvalid (planOf p) q → ⊥
@@ -549,25 +550,45 @@ module _ (p d : Bytes) (lent : ℕ) where
   plan-clear {q} h (unlicensed-step e l z) = z (licence-clear q l (rw e at h))
   plan-clear h (unmet-need {s = s} e l y w z) = z (needs-clear s l (rw (symbol-computed (planOf p) w) (rw e at h)))
 
-  evaluation-clear : {n q : ℕ} → Clear n q → EvaluationGivenWhen p d lent n q → ⊥
-  evaluation-clear h (of-plan w) = plan-clear h w
-  evaluation-clear h (of-data (invalid-data e f z)) = z (frame-clear (rw (e, f) at h))
-  evaluation-clear h (of-data (invalid-entry {m = m} {k = k} e f lm lk z)) = z (entry-clear m k (omega arith) (omega arith) (rw (e, f) at h))
-  evaluation-clear {q} h (of-data (invalid-partition e l z)) = z (declarations-clear q (omega arith) (rw e at h))
-  evaluation-clear {q} h (of-output (output-too-small e f l)) = let m = output-clear q f (rw e at h) in omega arith
+  data-clear : {n q : ℕ} → Clear n q → DataGivenWhen (planOf p) d n q → ⊥
+  data-clear h (invalid-data e f z) = z (frame-clear (rw (e, f) at h))
+  data-clear h (invalid-entry {m = m} {k = k} e f lm lk z) = z (entry-clear m k (omega arith) (omega arith) (rw (e, f) at h))
+  data-clear {q} h (invalid-partition e l z) = z (declarations-clear q (omega arith) (rw e at h))
 
-  -- the first met is given, by evaluating
-  pub evaluation-first :
-      (r : Refusal) → evaluationCheck p d lent ≡ Refuse r →
-      (n q : ℕ) → Earlier (turn n q) (turn (refusalReport r .number) (refusalReport r .place)) → EvaluationGivenWhen p d lent n q → ⊥
-  evaluation-first r h n q e = evaluation-clear (λ s k. rw (only (sym h ∙ k)) at e)
-    where
-      only : {r s : Refusal} → Refuse r ≡ Refuse s → r ≡ s
-      only e = cc
+  -- what comes after the inputs: where nothing up to a turn is refused, no row of theirs is given there, and they pass where the turn is later
+  module _ (rest : Outcome) where
+    pub plan-rows-clear : {n q : ℕ} → ClearUpTo (turn n q) (inputsCheck p d then rest) → PlanGivenWhen p n q → ⊥
+    plan-rows-clear h = plan-clear (clear-first _ _ h)
+
+    pub data-rows-clear : {n q : ℕ} → ClearUpTo (turn n q) (inputsCheck p d then rest) → DataGivenWhen (planOf p) d n q → ⊥
+    data-rows-clear h = data-clear (clear-first _ _ h)
+
+    pub after-inputs :
+        {t : Turn} → 100 < t .stage → ClearUpTo t (inputsCheck p d then rest) → (inputsCheck p d ≡ Pass) × ClearUpTo t rest
+    after-inputs {t} late h =
+        let pass = clear-passes t (inputsCheck p d) (clear-first _ _ h) (λ s e. let l = inputs-early s e in stage-passed (omega arith)) in
+        (pass, clear-next _ _ h pass)
+
+-- nothing earlier than the refusal that is given is refused
+pub clear-before :
+    (o : Outcome) (r : Refusal) → o ≡ Refuse r → {t : Turn} → Earlier t (turnOf r) → ClearUpTo t o
+clear-before o r h e s k = let is : r ≡ s = cc in rw is at e
+
+-- by evaluating
+pub evaluation-first :
+    (p d : Bytes) (lent : ℕ) (r : Refusal) → evaluationCheck p d lent ≡ Refuse r →
+    (n q : ℕ) → Earlier (turn n q) (turnOf r) → EvaluationGivenWhen p d lent n q → ⊥
+unfolding evaluationCheck turn turns
+evaluation-first p d lent r h n q e w = go (clear-before _ r h e) w
+  where
+    go : ClearUpTo (turn n q) (evaluationCheck p d lent) → EvaluationGivenWhen p d lent n q → ⊥
+    go c (of-plan w) = plan-rows-clear p d _ c w
+    go c (of-data w) = data-rows-clear p d _ c w
+    go c (of-output (output-too-small is f l)) =
+        let m = most (clear-test _ _ (after-inputs p d _ (omega arith) (rw is at c) .1) (check-passed refl refl (omega arith))) in omega arith
 
 -- and by checking
 pub plan-first :
-    (p : Bytes) (r : Refusal) → planCheck p ≡ Refuse r →
-    (n q : ℕ) → Earlier (turn n q) (turn (refusalReport r .number) (refusalReport r .place)) → PlanGivenWhen p n q → ⊥
-unfolding evaluationCheck inputsCheck _then_
-plan-first p r h n q e w = evaluation-first p [] 0 r (rw (h, _then_)) n q e (of-plan w)
+    (p : Bytes) (r : Refusal) → planCheck p ≡ Refuse r → (n q : ℕ) → Earlier (turn n q) (turnOf r) → PlanGivenWhen p n q → ⊥
+unfolding inputsCheck _then_
+plan-first p r h n q e = plan-rows-clear p [] Pass (clear-before _ r (rw (h, _then_)) e)

@@ -2,6 +2,7 @@
 use Prim.Native.Nat.{ℕ, _≤_}
 use mathlib.Core.Path.{_≡_, refl, sym, ap, _∙_}
 use mathlib.Core.List.{List}
+use mathlib.Core.Logic.{_↔_}
 use native.Mathlib.Nat.{mul-le-mul}
 use native.Mathlib.Omega.{arith}
 use lib.ListN.{length}
@@ -12,13 +13,15 @@ use Rattle.model.specs.Layout.{planOf}
 use Rattle.model.specs.Verdict.{verdict}
 use Rattle.model.specs.DataSets.{dataOf}
 use Rattle.model.specs.Evaluation.{MOST_WORDS, wordsNeeded, inputsCheck, judgement, outputCheck, evaluationCheck, evaluation, wordsAfter}
+use Rattle.model.specs.PlainPlan.{WellFormed, Parallelizable, Licensed, Concluded}
+use Rattle.model.specs.PlainData.{Fits}
 use Rattle.model.specs.Promises.{Accepts, EvaluationPromise, AcceptedInputs, JudgementPromise}
 use Rattle.model.specs.declared.Answer.{Answer}
 use Rattle.model.specs.declared.Answer.the-variants.{Accepted, Refused}
 use Rattle.model.specs.declared.Outcome.{Outcome}
 use Rattle.model.specs.declared.Outcome.the-variants.{Pass, Refuse}
 use Rattle.model.proofs.Tests.{most! }
-use Rattle.model.proofs.Outcomes.{then-pass, passes-then, required, conclude-accepted}
+use Rattle.model.proofs.Outcomes.{then-pass, passes-then, required, conclude-accepted, conclude-pass}
 use Rattle.model.proofs.Accepted.{limits, plan-accepted}
 use Rattle.model.proofs.Fitting.{fit}
 use Rattle.model.proofs.DataAgrees.{data-fits}
@@ -32,6 +35,21 @@ module _ (p d : Bytes) where
       let (plan-passes, data-passes) = then-pass _ _ h in
       let plan = plan-accepted p plan-passes in
       record { facts = plan .records; limits = limits p (plan .layout); fits = data-passes }
+
+  -- plan and data set pass exactly when the plain statements about them hold
+  pub inputs-exactly :
+      (inputsCheck p d ≡ Pass) ↔ (WellFormed p × Parallelizable p × Licensed p × Concluded p × Fits (planOf p) d)
+  unfolding verdict inputsCheck
+  inputs-exactly = (
+    λ h.
+        let (plan-passes, data-passes) = then-pass _ _ h in
+        let (formed, loops, steps, needs) = demand-2 p .0 (_, _, _, conclude-pass _ _ plan-passes) in
+        (formed, loops, steps, needs, data-fits (planOf p) d .0 data-passes),
+    λ w.
+        let (formed, loops, steps, needs, fits) = w in
+        let (s, n, t, h) = demand-2 p .1 (formed, loops, steps, needs) in
+        passes-then (conclude-accepted _ _ s n t h .0) (data-fits (planOf p) d .1 fits),
+  )
 
   -- at most 48 nodes of at most 16 pieces
   pub words-most : AcceptedInputs p d → wordsNeeded (planOf p) (dataOf d) ≤ MOST_WORDS
@@ -51,11 +69,9 @@ module _ (p d : Bytes) where
 
   module _ (old new : List ℕ) (r : Answer) (enough : MOST_WORDS ≤ length old) (evaluated : EvaluationPromise p d old new r) where
     accepted-inputs : Accepts r → AcceptedInputs p d
-    unfolding verdict inputsCheck
     accepted-inputs a =
         let (formed, loops, steps, needs, fits, words) = evaluated .exactly .0 a in
-        let (s, n, t, h) = demand-2 p .1 (formed, loops, steps, needs) in
-        inputs-accepted (passes-then (conclude-accepted _ _ s n t h .0) (data-fits (planOf p) d .1 fits))
+        inputs-accepted (inputs-exactly .1 (formed, loops, steps, needs, fits))
 
     kept : (a : Answer) → length (wordsAfter p d old a) ≡ length old
     kept (Accepted symbols nodes steps) = filled-length (planOf p) (dataOf d) old

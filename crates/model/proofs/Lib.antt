@@ -29,6 +29,7 @@ pub mod SubregionsAgree
 pub mod Words
 pub mod SetsAgree
 pub mod FinalWords
+pub mod Provenance
 pub mod Demand3
 pub mod EvaluatedExample
 pub mod Refutations
@@ -37,6 +38,7 @@ pub mod GivenWhen
 pub mod FirstMet
 pub mod EvaluationPromise
 pub mod JudgementPromise
+pub mod ExplanationPromise
 pub mod Demand2
 pub mod AllToFirst
 pub mod ExactRule

@@ -8,13 +8,14 @@ use native.Mathlib.Omega.{arith}
 use lib.Dec.{eqb}
 use borrow.Author.Tests.{eqb-true, eqb-false}
 use Rattle.model.specs.Tests.{Is, non}
-use Rattle.model.specs.Outcomes.{require, _then_, scan, conclude}
+use Rattle.model.specs.Outcomes.{require, _then_, scan, conclude, concludeWriting}
 use Rattle.model.specs.declared.Refusal.{Refusal}
 use Rattle.model.specs.declared.Outcome.{Outcome}
 use Rattle.model.specs.declared.Outcome.the-variants.{Pass, Refuse}
 use Rattle.model.specs.declared.Answer.{Answer}
 use Rattle.model.proofs.Tests.{failing, left}
 use Rattle.model.specs.declared.Answer.the-variants.{Accepted, Refused}
+use Rattle.model.specs.declared.Written.the-variants as written
 
 pub never {ℓ} : {A : Type ℓ} {r : Refusal} → Refuse r ≡ Pass → A
 never h = let z : _≡_ {A = ℕ} 0 1 = cc in absurd (omega arith)
@@ -136,6 +137,21 @@ conclude-refused (Refuse q) s n t r h = cc
 pub conclude-pass : (o : Outcome) (a : Answer) → o ≡ Pass → conclude o a ≡ a
 unfolding conclude
 conclude-pass o a h = rw (h, conclude)
+
+-- and where a list is written
+pub writing-length : (o : Outcome) (m n : ℕ) → concludeWriting o m ≡ written.Length n → (o ≡ Pass) × (m ≡ n)
+unfolding concludeWriting
+writing-length Pass m n h = (refl, cc)
+writing-length (Refuse r) m n h = let z : _≡_ {A = ℕ} 0 1 = cc in absurd (omega arith)
+
+pub writing-refused : (o : Outcome) (m : ℕ) (r : Refusal) → concludeWriting o m ≡ written.Refused r → o ≡ Refuse r
+unfolding concludeWriting
+writing-refused Pass m r h = let z : _≡_ {A = ℕ} 0 1 = cc in absurd (omega arith)
+writing-refused (Refuse q) m r h = cc
+
+pub writing-pass : (o : Outcome) (m : ℕ) → o ≡ Pass → concludeWriting o m ≡ written.Length m
+unfolding concludeWriting
+writing-pass o m h = rw (h, concludeWriting)
 
 -- a loop over records: what is left to scan is the whole scan's outcome
 pub scan-start : (f : ℕ → Outcome) (n : ℕ) → scan f 0 (n - 0) ≡ scan f 0 n

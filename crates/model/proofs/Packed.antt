@@ -1,4 +1,4 @@
--- Packing loses nothing: the answers of checking and of evaluating fit their bits, so that what a caller reads from the number is what
+-- Packing loses nothing: the answers of checking, evaluating and explaining fit their bits, so that what a caller reads from the number is what
 -- the answer tells. They fit for all inputs, because the limits of sections, sizes and pieces are checked before the places that they bound.
 -- Assumes nothing.
 use Prim.Native.Nat.{ℕ, zero, suc, _+_, _*_, _/_, _%_, _^_, _≤_, _<_}
@@ -7,9 +7,9 @@ use mathlib.Core.Logic.{inl, inr}
 use mathlib.Core.Bool.{Bool}
 use native.Mathlib.Nat.{mul-le-mul-right}
 use native.Mathlib.Omega.{arith}
-use Rattle.model.specs.Answers.{refusalReport, report}
+use Rattle.model.specs.Answers.{refusalReport, report, writtenReport}
 use Rattle.model.specs.Bytes.{Bytes, u16, boundary}
-use Rattle.model.specs.Outcomes.{require, _then_, scan, conclude}
+use Rattle.model.specs.Outcomes.{require, _then_, scan, conclude, concludeWriting}
 use Rattle.model.specs.Layout.{Plan, planOf, shapes, shapeOf, sectionCheck, layoutCheck, statementCount, source}
 use Rattle.model.specs.Statements.{statementCheck}
 use Rattle.model.specs.Parallel.{loopCheck}
@@ -21,18 +21,22 @@ use Rattle.model.specs.Declarations.{regionCheck, mapCheck, suppliedChec
 use Rattle.model.specs.Verdict.{recordsCheck, planCheck, accepted, verdict}
 use Rattle.model.specs.DataSets.{entriesCheck, dataCheck}
 use Rattle.model.specs.Evaluation.{inputsCheck, evaluationCheck, evaluation}
-use Rattle.model.specs.Packed.{TaggedValue, pack, unpack, Packing, packedBy, unpackedBy, refusalTag, answerTag, answerRead, answerPacking, packed, unpacked}
+use Rattle.model.specs.declared.Question.{Question}
+use Rattle.model.specs.Provenance.{questionCheck, chainRoomCheck, explanationCheck, explanation}
+use Rattle.model.specs.Packed.{TaggedValue, pack, unpack, Packing, packedBy, unpackedBy, refusalTag, answerTag, answerRead, answerPacking, packed, unpacked, writtenTag, writtenRead, writtenPacking}
 use Rattle.model.specs.declared.Refusal.{Refusal}
 use Rattle.model.specs.declared.Outcome.{Outcome}
 use Rattle.model.specs.declared.Outcome.the-variants.{Pass, Refuse}
 use Rattle.model.specs.declared.Answer.{Answer}
 use Rattle.model.specs.declared.Answer.the-variants.{Accepted, Refused}
+use Rattle.model.specs.declared.Written.the-variants as written
 use Rattle.model.proofs.Tests.{split, fails, refuted, same, same!, pick-true, pick-false, _also_, at-each}
 use Rattle.model.proofs.Outcomes.{then-cases, then-pass, require-pass, require-refuse, scan-pass, scan-refuse}
 use Rattle.model.proofs.Answers.{no-counts, number-in-table, report-injective}
 use Rattle.model.proofs.Accepted.{Section, section-pass, laid-out, limits, plan-accepted}
 use Rattle.model.proofs.DataAgrees.{frame-fits}
 use Rattle.model.proofs.JudgementPromise.{inputs-accepted, words-most}
+use Rattle.model.proofs.ExplanationPromise.{explanation-needed}
 
 -- an answer whose numbers fit their bits, with room to spare
 pub record Packable (r : Answer) : Type 0 where
@@ -234,3 +238,36 @@ pub evaluation-injective :
     report (evaluation p d lent) ≡ report (evaluation p' d' lent')
 evaluation-injective p d p' d' lent lent' e =
     ap report (packed-injective _ _ (evaluation-packable p d lent) (evaluation-packable p' d' lent') e)
+
+-- explaining: 16 has a place up to 4, and a chain at most 48 pairs
+explanation-near : (p d : Bytes) (q : Question) (lentNodes lentElements : ℕ) → Near (explanationCheck p d q lentNodes lentElements)
+unfolding explanationCheck questionCheck chainRoomCheck
+explanation-near p d q lentNodes lentElements =
+    near-then _ _ (inputs-near p d) λ inputs.
+    near-then _ _
+    (near-then _ _ (near-require _ _ (omega arith)) λ node.
+    near-then _ _ (near-require _ _ (omega arith)) λ piece.
+    near-then _ _ (near-require _ _ (omega arith)) λ element. near-require _ _ (omega arith)) λ question.
+    near-require _ _ (omega (arith, explanation-needed p d q inputs question))
+
+-- a length or a refusal's place that fits its bits
+written-lossless : (o : Outcome) (n : ℕ) → Near o → (o ≡ Pass → n ≤ 48) → Lossless writtenPacking (concludeWriting o n)
+unfolding concludeWriting writtenReport writtenTag writtenRead
+written-lossless Pass n near few =
+    let l = few refl in record { small-number = omega arith; small-value = omega arith; same-report = pick-true _ _ _ (same! refl) }
+written-lossless (Refuse r) n near few =
+    let some = number-in-table r .0 in
+    record {
+      small-number = omega (arith, number-in-table r .1);
+      small-value = omega (arith, near r refl);
+      same-report = pick-false _ _ _ (fails (refuted (λ h. let z = same h in omega arith)));
+    }
+
+pub explanation-read :
+    (p d : Bytes) (q : Question) (lentNodes lentElements : ℕ) →
+    unpackedBy writtenPacking (packedBy writtenPacking (explanation p d q lentNodes lentElements)) ≡ writtenReport (explanation p d q lentNodes lentElements)
+unfolding explanation explanationCheck
+explanation-read p d q lentNodes lentElements =
+    read-back writtenPacking _
+    (written-lossless _ _ (explanation-near p d q lentNodes lentElements)
+    (λ h. let (inputs, rest) = then-pass _ _ h in explanation-needed p d q inputs (then-pass _ _ rest .0)))

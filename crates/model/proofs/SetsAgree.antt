@@ -73,7 +73,7 @@ module _ (N n : ℕ) (some : 1 ≤ N) where
       pair (less! lt) (pair (most! (rw from (w .not-before))) (less! (rw to (w .not-after))))
 
 -- a difference, of what its operands say of an element
-in-difference : (a b : Bool) → Is (difference (λ i e. a) (λ i e. b) 0 0) ↔ (Is a × (Is b → ⊥))
+pub in-difference : (a b : Bool) → Is (difference (λ i e. a) (λ i e. b) 0 0) ↔ (Is a × (Is b → ⊥))
 unfolding difference _and_ non
 in-difference true true = (λ h. falsum h, λ w. absurd (w .1 refl))
 in-difference true false = (λ h. (refl, falsum), λ w. refl)

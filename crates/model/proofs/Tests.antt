@@ -175,6 +175,29 @@ first-most f k (suc n) j a b h = go (f k) refl (first-most f (suc k) n j)
         let ne : ¬ (k ≡ j) = λ q. falsum (sym (rw q at e) ∙ h) in
         rw (e, first, pick) (r (omega arith) (omega arith) h)
 
+pub first-bound : (f : ℕ → Bool) (k n : ℕ) → first f k n ≤ k + n
+unfolding first pick
+first-bound f k zero = omega arith
+first-bound f k (suc n) = go (f k) refl (first-bound f (suc k) n)
+  where
+    go : (b : Bool) → f k ≡ b → first f (suc k) n ≤ suc k + n → first f k (suc n) ≤ k + suc n
+    go true e r = rw (e, first, pick) (omega arith)
+    go false e r = rw (e, first, pick) (omega arith)
+
+-- the number that passes, or the last, is the first where none before it passes
+pub first-is : (f : ℕ → Bool) (n k : ℕ) → k ≤ n → (k < n → Is (f k)) → ((g : ℕ) → g < k → Is (f g) → ⊥) → k ≡ first f 0 n
+first-is f n k le h none =
+    let bound = first-bound f 0 n in
+    elim (split (first f 0 n <? k)) [
+      | inl early ↦ let l = less early in absurd (none (first f 0 n) l (first-found f 0 n (omega arith)))
+      | inr far ↦
+          let ge = not-less far in
+          elim (split (k <? n)) [
+            | inl inside ↦ let most = first-most f 0 n k (omega arith) (omega (arith, less inside)) (h (less inside)) in omega arith
+            | inr end ↦ omega (arith, not-less end)
+          ]
+    ]
+
 -- a loop that looks for the first of n numbers: what is left to search gives the whole search's number
 pub left : (n k : ℕ) → k < n → n - k ≡ suc (n - (k + 1))
 left n k h = omega arith

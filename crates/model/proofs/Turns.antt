@@ -118,6 +118,16 @@ placed-require b q w s e = rw (require-refuse b q s e .1) at w
 pub placed-then : (a b : Outcome) {stage item : ℕ} → Placed a stage item → Placed b stage item → Placed (a then b) stage item
 placed-then a b x y s e = then-cases a b s e (x s) (λ p f. y s f)
 
+-- what a check refuses for stands at this stage
+abbrev pub Staged : Outcome → ℕ → Type 0
+Staged o stage = (s : Refusal) → o ≡ Refuse s → turnOf s .stage ≡ stage
+
+pub staged-require : (b : Bool) (q : Refusal) {stage : ℕ} → turnOf q .stage ≡ stage → Staged (require b q) stage
+staged-require b q w s e = rw (require-refuse b q s e .1) at w
+
+pub staged-then : (a b : Outcome) {stage : ℕ} → Staged a stage → Staged b stage → Staged (a then b) stage
+staged-then a b x y s e = then-cases a b s e (x s) (λ p. y s)
+
 -- a scan of checks of one stage
 pub scan-stage :
     (f : ℕ → Outcome) (n stage : ℕ) → ((i : ℕ) → i < n → (s : Refusal) → f i ≡ Refuse s → turnOf s .stage ≡ stage) →

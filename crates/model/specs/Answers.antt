@@ -1,10 +1,13 @@
 -- "What comes out": number and place of a refusal, and the counts of an acceptance.
 use Prim.Native.Nat.{ℕ}
 use Rattle.model.specs.declared.Refusal.{Refusal}
-use Rattle.model.specs.declared.Refusal.the-variants.{Truncated, UnknownEdition, TrailingBytes, InvalidLength, InvalidRecord, RegionMismatch, DuplicateNode, NotParallelizable, AssignmentCount, UnlicensedStep, UnmetNeed, InvalidData, InvalidEntry, InvalidPartition, OutputTooSmall}
+use Rattle.model.specs.declared.Refusal.the-variants.{Truncated, UnknownEdition, TrailingBytes, InvalidLength, InvalidRecord, RegionMismatch, DuplicateNode, NotParallelizable, AssignmentCount, UnlicensedStep, UnmetNeed, InvalidData, InvalidEntry, InvalidPartition, OutputTooSmall, NotFound}
 use Rattle.model.specs.declared.Answer.{Answer}
 use Rattle.model.specs.declared.Answer.the-variants.{Accepted, Refused}
 use Rattle.model.specs.declared.Report.{Report}
+use Rattle.model.specs.declared.Written.{Written}
+use Rattle.model.specs.declared.Written.the-variants as written
+use Rattle.model.specs.declared.WrittenReport.{WrittenReport}
 
 -- "Refusal carries number and place, counts 0"
 abbrev pub refusal : ℕ → ℕ → Report
@@ -27,8 +30,14 @@ refusalReport InvalidData = refusal 12 0
 refusalReport (InvalidEntry p) = refusal 13 p
 refusalReport (InvalidPartition p) = refusal 14 p
 refusalReport (OutputTooSmall p) = refusal 15 p
+refusalReport (NotFound p) = refusal 16 p
 
 -- what an answer tells: "Acceptance carries the numbers of symbols, nodes and steps", under number 0
 unfoldable pub report : Answer → Report
 report (Accepted symbols nodes steps) = record { number = 0; place = 0; symbols = symbols; nodes = nodes; steps = steps }
 report (Refused r) = refusalReport r
+
+-- what an answer of a writing entry point tells: "the answer is the .. length", under number 0
+unfoldable pub writtenReport : Written → WrittenReport
+writtenReport (written.Length n) = record { number = 0; place = 0; length = n }
+writtenReport (written.Refused r) = record { number = refusalReport r .number; place = refusalReport r .place; length = 0 }

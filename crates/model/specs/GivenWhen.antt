@@ -3,13 +3,18 @@
 use Prim.Native.Nat.{ℕ, suc, _+_, _*_, _≤_, _<_}
 use mathlib.Core.Path.{_≡_}
 use mathlib.Core.Logic.{_⊎_}
+use mathlib.Core.Bool.{Bool}
 use lib.ListN.{length}
+use Rattle.model.specs.Tests.{Is}
 use Rattle.model.specs.Bytes.{Bytes, byte, boundary, body}
 use Rattle.model.specs.Layout.{Plan, planOf, regionCount, mapCount, suppliedCount, statementCount, nodeCount, assignmentCount, stepCount, fields, source, target, totality, suppliedRegion, suppliedFlags, statementKind, assigned, stepLemma, stepX, stepY, stepP, stepQ}
 use Rattle.model.specs.LoopRelations.{HasSymbol, SymbolsBefore, SymbolRegion, NodeRegion}
 use Rattle.model.specs.PlainPlan.{SectionLength, StatementFormed, StatementAgrees, ParallelizableLoop, NodeFormed, NodeAgrees, SameNode, StepFormed, Licence, NeedsConcluded}
 use Rattle.model.specs.DataSets.{DataSet, dataOf, pieces, size}
 use Rattle.model.specs.PlainData.{WellFramed, EntryFits, DeclarationsHold}
+use Rattle.model.specs.PlainSets.{DefinedSets}
+use Rattle.model.specs.declared.Question.{Question}
+use Rattle.model.specs.Grounds.{PairExists, Grounds}
 
 -- Stray, at section × 256 + record
 pub data RecordInvalid (P : Plan) (place : ℕ) : Type 0 where
@@ -97,3 +102,36 @@ pub data EvaluationGivenWhen (p d : Bytes) (lent number place : ℕ) : Type 0 wh
   of-plan : PlanGivenWhen p number place → EvaluationGivenWhen p d lent number place
   of-data : DataGivenWhen (planOf p) d number place → EvaluationGivenWhen p d lent number place
   of-output : OutputGivenWhen (planOf p) (dataOf d) lent number place → EvaluationGivenWhen p d lent number place
+
+-- number 16: what is asked for is absent
+pub data QuestionGivenWhen (P : Plan) (D : DataSet) (q : Question) (number place : ℕ) : Type 0 where
+  -- "node .. does not exist", place 1
+  no-node : number ≡ 16 → place ≡ 1 → (q .node < nodeCount P → ⊥) → QuestionGivenWhen P D q number place
+  -- "piece", place 2
+  no-piece : number ≡ 16 → place ≡ 2 → q .node < nodeCount P → (q .piece < pieces D → ⊥) → QuestionGivenWhen P D q number place
+  -- "or element", place 3: it is not in the node's region
+  no-element :
+      number ≡ 16 → place ≡ 3 → q .node < nodeCount P → q .piece < pieces D → (PairExists P D (q .node) (q .element) → ⊥) →
+      QuestionGivenWhen P D q number place
+  -- "or the element is not a member", place 4, of the sets that the operators define
+  no-member :
+      number ≡ 16 → place ≡ 4 → q .piece < pieces D → PairExists P D (q .node) (q .element) →
+      ((sets : ℕ → ℕ → ℕ → Bool) → DefinedSets P D sets → Is (sets (q .node) (q .piece) (q .element)) → ⊥) →
+      QuestionGivenWhen P D q number place
+
+-- number 15: what two slices of these lengths are refused for
+pub data ChainGivenWhen (P : Plan) (D : DataSet) (q : Question) (lentNodes lentElements number place : ℕ) : Type 0 where
+  -- "Too short a slice is Narrow with the length as its place"
+  chain-too-long :
+      {sets : ℕ → ℕ → ℕ → Bool} {nodes elements : ℕ → ℕ} → number ≡ 15 → q .piece < pieces D → DefinedSets P D sets →
+      Grounds P D (λ j i e. Is (sets j i e)) q place nodes elements → (lentNodes < place) ⊎ (lentElements < place) →
+      ChainGivenWhen P D q lentNodes lentElements number place
+
+-- explaining, of plan p over data set d, where slices of these lengths are lent
+pub data ExplanationGivenWhen (p d : Bytes) (q : Question) (lentNodes lentElements number place : ℕ) : Type 0 where
+  of-plan : PlanGivenWhen p number place → ExplanationGivenWhen p d q lentNodes lentElements number place
+  of-data : DataGivenWhen (planOf p) d number place → ExplanationGivenWhen p d q lentNodes lentElements number place
+  of-question : QuestionGivenWhen (planOf p) (dataOf d) q number place → ExplanationGivenWhen p d q lentNodes lentElements number place
+  of-chain :
+      ChainGivenWhen (planOf p) (dataOf d) q lentNodes lentElements number place →
+      ExplanationGivenWhen p d q lentNodes lentElements number place

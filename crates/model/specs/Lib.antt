@@ -17,10 +17,12 @@ pub mod Words
 pub mod DataSets
 pub mod Membership
 pub mod Evaluation
+pub mod Provenance
 pub mod LoopRelations
 pub mod PlainPlan
 pub mod PlainData
 pub mod PlainSets
+pub mod Grounds
 pub mod Touches
 pub mod Legal
 pub mod Undisturbed

@@ -6,6 +6,8 @@ use Rattle.model.specs.declared.Outcome.{Outcome}
 use Rattle.model.specs.declared.Outcome.the-variants.{Pass, Refuse}
 use Rattle.model.specs.declared.Answer.{Answer}
 use Rattle.model.specs.declared.Answer.the-variants.{Refused}
+use Rattle.model.specs.declared.Written.{Written}
+use Rattle.model.specs.declared.Written.the-variants as written
 
 infixr 20 _then_
 -- a test that must pass
@@ -27,3 +29,8 @@ scan check k (suc n) = let rest = scan check (suc k) n in check k then rest
 unfoldable pub conclude : Outcome → Answer → Answer
 conclude Pass answer = answer
 conclude (Refuse r) answer = Refused r
+
+-- the same, where a list of this length is written after the last check
+unfoldable pub concludeWriting : Outcome → ℕ → Written
+concludeWriting Pass n = written.Length n
+concludeWriting (Refuse r) n = written.Refused r

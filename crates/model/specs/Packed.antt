@@ -1,11 +1,14 @@
 -- An answer as one number of 64 bits, for callers in C and Rust, and the way they read it.
 use Prim.Native.Nat.{ℕ, _+_, _*_, _/_, _%_, _^_}
 use Rattle.model.specs.Tests.{pick, _==_}
-use Rattle.model.specs.Answers.{refusal, refusalReport, report}
+use Rattle.model.specs.Answers.{refusal, refusalReport, report, writtenReport}
 use Rattle.model.specs.declared.Refusal.{Refusal}
 use Rattle.model.specs.declared.Answer.{Answer}
 use Rattle.model.specs.declared.Answer.the-variants.{Accepted, Refused}
 use Rattle.model.specs.declared.Report.{Report}
+use Rattle.model.specs.declared.Written.{Written}
+use Rattle.model.specs.declared.Written.the-variants as written
+use Rattle.model.specs.declared.WrittenReport.{WrittenReport}
 
 -- what stands in the bits: a number in the low 8, and the value that goes with it in the 56 above them
 pub record TaggedValue : Type 0 where
@@ -64,3 +67,17 @@ packed = packedBy answerPacking
 
 abbrev pub unpacked : ℕ → Report
 unpacked = unpackedBy answerPacking
+
+-- what was written: number 0, and the length above it
+unfoldable pub writtenTag : Written → TaggedValue
+writtenTag (written.Length n) = tagged 0 n
+writtenTag (written.Refused r) = refusalTag r
+
+-- what a caller makes of them: under number 0 the length, under any other a refusal at the place
+unfoldable pub writtenRead : TaggedValue → WrittenReport
+writtenRead t =
+    pick (t .number == 0) (writtenReport (written.Length (t .value))) (record { number = t .number; place = t .value; length = 0 })
+
+-- how answers of entry points that write a list are packed
+abbrev pub writtenPacking : Packing Written WrittenReport
+writtenPacking = record { report = writtenReport; tag = writtenTag; read = writtenRead }

@@ -1,6 +1,7 @@
 -- The sets of "Expressions" as plain statements, node by node: what each operator makes of its operands' pieces.
 use Prim.Native.Nat.{ℕ, suc, _+_, _*_, _≤_, _<_}
 use mathlib.Core.Path.{_≡_}
+use mathlib.Core.Bool.{Bool}
 use mathlib.Core.Logic.{_⊎_, _↔_}
 use Rattle.model.specs.Tests.{Is}
 use Rattle.model.specs.Layout.{Plan, nodeCount, suppliedRegion, nodeKind, nodeA, nodeB}
@@ -46,3 +47,7 @@ module _ (P : Plan) (D : DataSet) where
   abbrev pub OperatorSets : (ℕ → ℕ → ℕ → Type 0) → Type 0
   OperatorSets In =
       (j i e : ℕ) → j < nodeCount P → i < pieces D → e < 512 → In j i e ↔ ByOperator In j i e
+
+  -- sets that the operators define, by a test: whether a node's piece holds an element
+  abbrev pub DefinedSets : (ℕ → ℕ → ℕ → Bool) → Type 0
+  DefinedSets sets = OperatorSets (λ j i e. Is (sets j i e))

@@ -1,12 +1,13 @@
--- What the entry points promise, for all inputs: the contracts of `check`, `evaluate` and `judge` cite these records.
+-- What the entry points promise, for all inputs: the contracts of `check`, `evaluate`, `judge` and `explain` cite these
+-- records.
 use Prim.Native.Nat.{ℕ, _+_, _*_, _/_, _≤_, _<_}
 use mathlib.Core.Path.{_≡_}
 use mathlib.Core.Logic.{_↔_}
 use mathlib.Core.List.{List}
-use mathlib.Core.Bool.{false}
-use lib.ListN.{length, drop}
+use mathlib.Core.Bool.{Bool, false}
+use lib.ListN.{length, getD, drop}
 use Rattle.model.specs.Tests.{Is}
-use Rattle.model.specs.Answers.{report}
+use Rattle.model.specs.Answers.{report, writtenReport}
 use Rattle.model.specs.Bytes.{Bytes, body}
 use Rattle.model.specs.Layout.{planOf, statementCount, nodeCount}
 use Rattle.model.specs.Nodes.{nodeRegion}
@@ -19,15 +20,20 @@ use Rattle.model.specs.AcceptedPlans.{Facts, Limits}
 use Rattle.model.specs.LoopRelations.{SymbolsBefore}
 use Rattle.model.specs.PlainPlan.{WellFormed, Parallelizable, Licensed, Concluded}
 use Rattle.model.specs.PlainData.{Fits}
-use Rattle.model.specs.GivenWhen.{PlanGivenWhen, EvaluationGivenWhen}
+use Rattle.model.specs.GivenWhen.{PlanGivenWhen, EvaluationGivenWhen, ExplanationGivenWhen}
 use Rattle.model.specs.RefusalOrder.{turn, Earlier}
-use Rattle.model.specs.PlainSets.{OperatorSets}
+use Rattle.model.specs.PlainSets.{OperatorSets, DefinedSets}
+use Rattle.model.specs.declared.Question.{Question}
+use Rattle.model.specs.Provenance.{explanation, nodesAfter, elementsAfter}
+use Rattle.model.specs.Grounds.{Grounds, Explainable}
 use Rattle.model.specs.Legal.{Legal}
 use Rattle.model.specs.Undisturbed.{Undisturbed}
 use Rattle.model.specs.declared.Refusal.{Refusal}
 use Rattle.model.specs.declared.Answer.{Answer}
 use Rattle.model.specs.declared.Outcome.the-variants.{Pass}
 use Rattle.model.specs.declared.Answer.the-variants.{Accepted, Refused}
+use Rattle.model.specs.declared.Written.{Written}
+use Rattle.model.specs.declared.Written.the-variants as written
 
 -- an answer is an acceptance
 abbrev pub Accepts : Answer → Type 0
@@ -108,3 +114,47 @@ pub record JudgementPromise (p d : Bytes) (old new : List ℕ) (r : Answer) : Ty
   pub inputs : Accepts r → AcceptedInputs p d
   -- there are as many words as before
   pub room : length new ≡ length old
+
+-- an answer says that a list was written
+abbrev pub Writes : Written → Type 0
+Writes r = (n : ℕ) × (r ≡ written.Length n)
+
+-- explaining, by plan p and data set d, what q asks, into slices that held `oldNodes` and `oldElements`, answers r and leaves the new ones
+pub record ExplanationPromise (p d : Bytes) (q : Question) (oldNodes newNodes oldElements newElements : List ℕ) (r : Written) : Type 0 where
+  -- number, place and length are the definition's
+  pub answer : writtenReport r ≡ writtenReport (explanation p d q (length oldNodes) (length oldElements))
+  -- both slices, every place of them: the chain's nodes and elements, and the old ones after a refusal and past the chain's length
+  pub nodes : newNodes ≡ nodesAfter p d q oldNodes r
+  pub elements : newElements ≡ elementsAfter p d q oldElements r
+  -- a chain is written exactly when the plan is accepted, the data set fits, the element is a member and both slices are long enough
+  pub exactly :
+      Writes r ↔
+      (WellFormed p × Parallelizable p × Licensed p × Concluded p × Fits (planOf p) d ×
+      Explainable (planOf p) (dataOf d) q (length oldNodes) (length oldElements))
+  -- "a refusal changes none of it"
+  pub untouched : (s : Refusal) → r ≡ written.Refused s → (newNodes ≡ oldNodes) × (newElements ≡ oldElements)
+  -- "past the part written it keeps what it held"
+  pub later :
+      (n : ℕ) → r ≡ written.Length n →
+      (length newNodes ≡ length oldNodes) × (drop n newNodes ≡ drop n oldNodes)
+      × (length newElements ≡ length oldElements) × (drop n newElements ≡ drop n oldElements)
+  -- a refusal holds as the table says
+  pub refused :
+      (s : Refusal) → r ≡ written.Refused s →
+      ExplanationGivenWhen p d q (length oldNodes) (length oldElements) (writtenReport r .number) (writtenReport r .place)
+  -- "The first met is given"
+  pub first :
+      (s : Refusal) → r ≡ written.Refused s → (number place : ℕ) →
+      Earlier (turn number place) (turn (writtenReport r .number) (writtenReport r .place)) →
+      ExplanationGivenWhen p d q (length oldNodes) (length oldElements) number place → ⊥
+  -- no chain is longer than there are nodes
+  pub few : (n : ℕ) → r ≡ written.Length n → n ≤ 48
+  -- the slices hold the grounds of what was asked, of the sets that the operators define
+  pub grounds :
+      (n : ℕ) → r ≡ written.Length n → (sets : ℕ → ℕ → ℕ → Bool) → DefinedSets (planOf p) (dataOf d) sets →
+      Grounds (planOf p) (dataOf d) (λ j i e. Is (sets j i e)) q n (λ k. getD newNodes k 0) (λ k. getD newElements k 0)
+  -- and these are its only grounds
+  pub only :
+      (n : ℕ) → r ≡ written.Length n → (sets : ℕ → ℕ → ℕ → Bool) → DefinedSets (planOf p) (dataOf d) sets →
+      (m : ℕ) (nodes elements : ℕ → ℕ) → Grounds (planOf p) (dataOf d) (λ j i e. Is (sets j i e)) q m nodes elements →
+      (m ≡ n) × ((k : ℕ) → k < n → (nodes k ≡ getD newNodes k 0) × (elements k ≡ getD newElements k 0))

@@ -1,5 +1,5 @@
 -- "Order: 1 for empty, 2; per section 1 then 4; 3; records by section, at each 5, 6, 7; 8 after section 4; 9 before section 6; at each
--- step 5, then 10; 11 by symbol; 12; 13; 14; 15. The first met is given."
+-- step 5, then 10; 11 by symbol; 12; 13; 14; 15. The first met is given." 16 is "after 14, before 15", the lowest place first.
 use Prim.Native.Nat.{ℕ, _*_, _/_, _%_, _<_}
 use mathlib.Core.Path.{_≡_}
 use mathlib.Core.List.{List, [], _∷_}
@@ -17,7 +17,7 @@ abbrev pub turnAt : ℕ → ℕ → ℕ → Turn
 turnAt stage item check = record { stage = stage; item = item; check = check }
 
 -- the turns by number, each at a place. Stages 1 to 4 are the layout's; 10, 20, .. 70 are the records of sections 1 to 7, what
--- stands between two sections has a stage between theirs; 80 and on are the data set and the lent words
+-- stands between two sections has a stage between theirs; 80 and on are the data set, what is asked of it, and what is lent
 unfoldable pub turns : List (ℕ → Turn)
 turns =
     -- no refusal has number 0
@@ -47,6 +47,8 @@ turns =
     ∷ (λ place. turnAt 90 place 0)
     ∷ (λ place. turnAt 100 place 0)
     ∷ (λ place. turnAt 110 0 0)
+    -- 16 "place 1, 2, 3 or 4, the lowest; after 14, before 15"
+    ∷ (λ place. turnAt 105 place 0)
     ∷ []
 
 -- the turn of a refusal of this number at this place

@@ -4,6 +4,8 @@ use mathlib.Core.Bool.{Bool, true, false}
 use mathlib.Core.List.{List}
 use lib.ListN.{getD, set}
 use Rattle.model.specs.Tests.{_==_}
+use Rattle.model.specs.declared.Written.{Written}
+use Rattle.model.specs.declared.Written.the-variants.{Length, Refused}
 
 -- bit b of the number w
 unfoldable pub bit : ℕ → ℕ → Bool
@@ -31,3 +33,8 @@ word elements w = fromBits 64 (λ b. elements (w * 64 + b))
 unfoldable pub store : List ℕ → ℕ → ℕ → (ℕ → ℕ) → List ℕ
 store words at zero value = words
 store words at (suc n) value = set (store words at n value) (at + n) (value n)
+
+-- a lent list after an answer: the values up to the length written, the rest as before; "a refusal changes none of it"
+unfoldable pub listAfter : (ℕ → ℕ) → List ℕ → Written → List ℕ
+listAfter value old (Length n) = store old 0 n value
+listAfter value old (Refused r) = old

@@ -16,7 +16,8 @@ pub enum Refusal {
     InvalidData, // 12 Misframed: place 0
     InvalidEntry(usize), // 13 Dangling: map * 512 + element
     InvalidPartition(usize), // 14 Untrue: the supplied partition
-    OutputTooSmall(usize), // 15 Narrow: the words needed
+    OutputTooSmall(usize), // 15 Narrow: the length needed
+    NotFound(usize), // 16 Absent: 1 the node, 2 the piece, 3 the element does not exist, 4 the piece lacks the element
 }
 
 pub enum Answer {
@@ -28,6 +29,12 @@ pub enum Answer {
     Refused(Refusal),
 }
 
+// What an entry point that writes a list says: how long the list is.
+pub enum Written {
+    Length(usize),
+    Refused(Refusal),
+}
+
 // What an answer tells: number and place of a refusal, 0 and 0 on acceptance; the counts of an acceptance, 0 on refusal.
 pub struct Report {
     pub number: usize,
@@ -35,6 +42,26 @@ pub struct Report {
     pub symbols: usize,
     pub nodes: usize,
     pub steps: usize,
+}
+
+// What such an answer tells: number and place of a refusal, 0 and 0 where a list was written; its length, 0 on refusal.
+pub struct WrittenReport {
+    pub number: usize,
+    pub place: usize,
+    pub length: usize,
+}
+
+// "Given node, piece and element": why does this piece of this node hold this element?
+pub struct Question {
+    pub node: usize,
+    pub piece: usize,
+    pub element: usize,
+}
+
+// A pair of the chain that answers it: the node's piece holds the element.
+pub struct Pair {
+    pub node: usize,
+    pub element: usize,
 }
 
 // What one check of several says.

@@ -1,4 +1,3 @@
-pub mod Zeros
 pub mod Piece
 pub mod Maps
 pub mod NodePieces

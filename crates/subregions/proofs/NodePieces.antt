@@ -37,19 +37,24 @@ module _ {old : List ℕ} {at : ℕ} {partition : Partition} {N : ℕ} where
   pieces-none = record { few = omega arith; words-are = refl; as-long = refl }
 
   module _ {words : List ℕ} {i : ℕ} (written : PiecesWritten old at partition N words i) where
-    -- a piece written, whose set is the partition's piece i
-    pub piece-next : {new piece : List ℕ} {elements : ℕ → Bool} → i < N → PieceOf elements piece → new ≡ store words (at + i * 8) 8 (wordAt piece)
+    -- a set stored, which is the partition's piece i
+    pub set-next : {new : List ℕ} {elements : ℕ → Bool} → i < N → new ≡ store words (at + i * 8) 8 (word elements)
         → ((e : ℕ) → e < 512 → elements e ≡ partition i e) → PiecesWritten old at partition N new (i + 1)
-    piece-next {new} {piece} {elements} lt made q same =
+    set-next {new} {elements} lt q same =
         let more : i * 8 + 8 ≡ (i + 1) * 8 = omega arith in
-        let value : (k : ℕ) → k < 8 → wordAt piece k ≡ pieceWords partition (i * 8 + k) =
-        λ k m. made .word-is k m ∙ word-same elements (partition i) k (λ b r. same (k * 64 + b) (omega arith)) ∙ own-word partition i k m in
+        let value : (k : ℕ) → k < 8 → word elements k ≡ pieceWords partition (i * 8 + k) =
+        λ k m. word-same elements (partition i) k (λ b r. same (k * 64 + b) (omega arith)) ∙ own-word partition i k m in
         let all : new ≡ store old at ((i + 1) * 8) (pieceWords partition) =
-        q ∙ ap (λ (list : List ℕ). store list (at + i * 8) 8 (wordAt piece)) (written .words-are)
-        ∙ store-same _ (at + i * 8) 8 (wordAt piece) (λ k. pieceWords partition (i * 8 + k)) value
+        q ∙ ap (λ (list : List ℕ). store list (at + i * 8) 8 (word elements)) (written .words-are)
+        ∙ store-same _ (at + i * 8) 8 (word elements) (λ k. pieceWords partition (i * 8 + k)) value
         ∙ store-pieces old at (i * 8) 8 (pieceWords partition) ∙ ap (λ (n : ℕ). store old at n (pieceWords partition)) more
         in
         record { few = omega arith; words-are = all; as-long = ap length all ∙ store-length old at ((i + 1) * 8) (pieceWords partition) }
+
+    -- a piece written, which holds that set
+    pub piece-next : {new piece : List ℕ} {elements : ℕ → Bool} → i < N → PieceOf elements piece → new ≡ store words (at + i * 8) 8 (wordAt piece)
+        → ((e : ℕ) → e < 512 → elements e ≡ partition i e) → PiecesWritten old at partition N new (i + 1)
+    piece-next {piece} {elements} lt made q same = set-next lt (q ∙ store-same words (at + i * 8) 8 (wordAt piece) (word elements) (made .word-is)) same
 
     pub pieces-all : N ≤ i → words ≡ store old at (N * 8) (pieceWords partition)
     pieces-all end =

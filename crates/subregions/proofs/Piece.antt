@@ -7,15 +7,15 @@ use native.Mathlib.Nat.{mod-lt}
 use native.Mathlib.Omega.{arith}
 use lib.Bits.{bitAnd, bitOr, and-le-l, or-lt}
 use lib.ListN.{length, getD, set, replicate, length-set, length-replicate, getD-replicate}
-use lib.Seq.{getD-set-other}
-use native.Mathlib.Decide.{decLt}
+use lib.Seq.{getD-set-same, getD-set-other}
+use native.Mathlib.Decide.{ℕ-discrete, decLt}
 use Rattle.model.specs.Tests.{_and_, _or_, _==_}
 use Rattle.model.specs.Bytes.{byte}
 use Rattle.model.specs.Words.{bit, holds, fromBits, word, store}
-use Rattle.model.proofs.Words.{bit-zero, bit-number, number-less, is-word, holds-bit, store-next}
+use Rattle.model.proofs.Words.{bit-zero, bit-number, number-less, is-word, holds-bit, store-length, store-next, store-inside, store-outside, is-store}
 use Rattle.bitsets.specs.declared.words.SetOperator.{SetOperator}
 use Rattle.bitsets.specs.Elements.{PieceOf, combination, combinedBits, combined, masked, suppliedElements, bytesBits, reversedBits}
-use Rattle.subregions.specs.Operators.{SetOf, OperandSet}
+use Rattle.subregions.specs.Operators.{noWord, SetOf, OperandSet}
 use Rattle.primitives.proofs.Bits.{and-swap, bit-and}
 use Rattle.bitsets.proofs.Elements.{added}
 use Rattle.primitives.proofs.Filling.{entry-next, entry-changed}
@@ -50,18 +50,14 @@ pub record Made (elements : ℕ → Bool) (piece : List ℕ) (w : ℕ) : Type 0 
   pub rest : (k : ℕ) → w ≤ k → k < 8 → getD piece k 0 ≡ 0
 
 module _ (elements : ℕ → Bool) where
-  -- the words that are skipped have no element
-  pub made-from : (w : ℕ) → w ≤ 8 → ((k : ℕ) → k < w → 0 ≡ word elements k) → Made elements (replicate 8 0) w
-  made-from w h skipped =
+  pub made-none : Made elements (replicate 8 0) 0
+  made-none =
       record {
-        few = h;
+        few = omega arith;
         eight = length-replicate {A = ℕ} 8 0;
-        word-is = λ k l. getD-replicate {A = ℕ} 8 k 0 0 (omega arith) ∙ skipped k l;
+        word-is = λ k l. absurd (omega arith);
         rest = λ k l m. getD-replicate {A = ℕ} 8 k 0 0 m;
       }
-
-  pub made-none : Made elements (replicate 8 0) 0
-  made-none = made-from 0 (omega arith) (λ k l. absurd (omega arith))
 
   pub made-next : (piece : List ℕ) (w v : ℕ) → Made elements piece w → w < 8 → v ≡ word elements w → Made elements (set piece w v) (w + 1)
   made-next piece w v h l e =
@@ -82,6 +78,56 @@ module _ (elements : ℕ → Bool) where
 
   pub made-all : (piece : List ℕ) (w : ℕ) → Made elements piece w → 8 ≤ w → PieceOf elements piece
   made-all piece w h l = made-to piece w h (λ k m r. absurd (omega arith))
+
+-- a cleared piece with so many of its words written, the others still 0
+pub record Begun (old : List ℕ) (at : ℕ) (elements : ℕ → Bool) (new : List ℕ) (w : ℕ) : Type 0 where
+  pub few : w ≤ 8
+  pub as-long : length new ≡ length old
+  pub word-is : (k : ℕ) → k < w → getD new (at + k) 0 ≡ word elements k
+  pub rest : (k : ℕ) → w ≤ k → k < 8 → getD new (at + k) 0 ≡ 0
+  pub outside : (i : ℕ) → (at ≤ i → i < at + 8 → ⊥) → getD new i 0 ≡ getD old i 0
+
+module _ (base old : List ℕ) (at : ℕ) (elements : ℕ → Bool) (room : at + 8 ≤ length base) (cleared : old ≡ store base at 8 noWord) where
+  -- the words that are skipped have no element
+  pub begun-from : (w : ℕ) → w ≤ 8 → ((k : ℕ) → k < w → 0 ≡ word elements k) → Begun old at elements old w
+  begun-from w h skipped =
+      record {
+        few = h;
+        as-long = refl;
+        word-is = λ k l. empty k (omega arith) ∙ skipped k l;
+        rest = λ k l m. empty k m;
+        outside = λ i o. refl;
+      }
+    where
+      empty : (k : ℕ) → k < 8 → getD old (at + k) 0 ≡ 0
+      empty k l = ap (λ (list : List ℕ). getD list (at + k) 0) cleared ∙ store-inside base at 8 noWord k room l
+
+  as-base : length old ≡ length base
+  as-base = ap length cleared ∙ store-length base at 8 noWord
+
+  pub begun-next : (new : List ℕ) (w v : ℕ) → Begun old at elements new w → w < 8 → v ≡ word elements w → Begun old at elements (set new (at + w) v) (w + 1)
+  begun-next new w v h l e =
+      record {
+        few = omega arith;
+        as-long = length-set new (at + w) v ∙ h .as-long;
+        word-is = λ k m. go k m (ℕ-discrete k w);
+        rest = λ k m r. getD-set-other new (at + w) (at + k) v 0 (λ q. absurd (omega arith)) ∙ h .rest k (omega arith) r;
+        outside = λ i o. getD-set-other new (at + w) i v 0 (λ q. o (omega arith) (omega arith)) ∙ h .outside i o;
+      }
+    where
+      go : (k : ℕ) → k < w + 1 → Dec (k ≡ w) → getD (set new (at + w) v) (at + k) 0 ≡ word elements k
+      go k m (yes q) = rw q (getD-set-same new (at + w) v 0 (omega (arith, h .as-long, as-base)) ∙ e)
+      go k m (no q) = getD-set-other new (at + w) (at + k) v 0 (λ s. q (omega arith)) ∙ h .word-is k (omega arith)
+
+  -- the words that are left have no element
+  pub begun-to : (new : List ℕ) (w : ℕ) → Begun old at elements new w → ((k : ℕ) → w ≤ k → k < 8 → 0 ≡ word elements k) → new ≡ store base at 8 (word elements)
+  begun-to new w h left =
+      is-store new base at 8 (word elements) (h .as-long ∙ as-base) room (λ k l. go k l (decLt k w))
+      (λ i o. h .outside i o ∙ ap (λ (list : List ℕ). getD list i 0) cleared ∙ store-outside base at 8 noWord i o)
+    where
+      go : (k : ℕ) → k < 8 → Dec (k < w) → getD new (at + k) 0 ≡ word elements k
+      go k l (yes m) = h .word-is k m
+      go k l (no m) = h .rest k (omega arith) l ∙ left k (omega arith) l
 
 -- a set's words and a spare one
 module _ (T : ℕ → Bool) where

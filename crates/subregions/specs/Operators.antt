@@ -14,6 +14,16 @@ pub record WriteRoom (words piece : List ℕ) (at : ℕ) : Type 0 where
   pub room : at + 8 ≤ length words
   pub eight : 8 ≤ length piece
 
+-- a word without an element
+abbrev pub noWord : ℕ → ℕ
+noWord w = 0
+
+-- a range of elements written
+pub record RangeRoom (words : List ℕ) (at low high : ℕ) : Type 0 where
+  pub room : at + 8 ≤ length words
+  pub low-inside : low ≤ 512
+  pub high-inside : high ≤ 512
+
 -- eight of a piece's bytes, all of them inside where that is said
 pub record PieceBytesRoom (members : List ℕ) (at : ℕ) (inside : Bool) : Type 0 where
   pub near : at < 2 ^ 32

@@ -8,10 +8,15 @@ use Rattle.model.specs.Partitions.{Partition, equalStart}
 use Rattle.model.specs.Words.{holds, word}
 use Rattle.bitsets.specs.declared.words.SetOperator.{SetOperator}
 use Rattle.bitsets.specs.Elements.{between, combined, suppliedElements, entriesOf, leadingTo}
+use Rattle.subregions.specs.declared.Span.{Span}
 
 -- eight words for each piece: word w of all of them
 unfoldable pub pieceWords : Partition → ℕ → ℕ
 pieceWords partition w = word (partition (w / 8)) (w % 8)
+
+-- the pieces from one of them on
+abbrev pub piecesFrom : ℕ → Partition → Partition
+piecesFrom first partition i = partition (first + i)
 
 unfoldable pub suppliedPieces : Bytes → ℕ → ℕ → Partition
 suppliedPieces members from size i e = e <? size and suppliedElements members (from + i * ((size + 7) / 8)) e
@@ -28,17 +33,18 @@ imagePieces words entries start count a i = entriesOf count entries start (holds
 unfoldable pub preimagePieces : List ℕ → Bytes → ℕ → ℕ → ℕ → ℕ → Partition
 preimagePieces words entries start count size a i = leadingTo count entries start size (holds words (a + i * 8))
 
-pub record SuppliedRoom (words : List ℕ) (from size pieces at : ℕ) : Type 0 where
-  pub few-pieces : pieces ≤ 16
+pub record SuppliedRoom (words : List ℕ) (from size : ℕ) (span : Span) (at : ℕ) : Type 0 where
+  pub few-pieces : span .first + span .count ≤ 16
   pub few-elements : size ≤ 512
   pub near-start : from < 2 ^ 30
-  pub room : at + pieces * 8 ≤ length words
+  pub room : at + span .count * 8 ≤ length words
 
-pub record EqualRoom (words : List ℕ) (size pieces at : ℕ) : Type 0 where
-  pub some-piece : 1 ≤ pieces
-  pub few-pieces : pieces ≤ 16
+pub record EqualRoom (words : List ℕ) (size : ℕ) (span : Span) (at : ℕ) : Type 0 where
+  pub some-piece : 1 ≤ span .pieces
+  pub few-pieces : span .pieces ≤ 16
+  pub pieces-listed : span .first + span .count ≤ span .pieces
   pub few-elements : size ≤ 512
-  pub room : at + pieces * 8 ≤ length words
+  pub room : at + span .count * 8 ≤ length words
 
 -- the operands' pieces stand before those that are written
 pub record CombinedRoom (words : List ℕ) (a b pieces at : ℕ) : Type 0 where

@@ -1,4 +1,5 @@
 // Fills the lent words, node by node.
+use crate::Span;
 use crate::pieces::fill_difference;
 use crate::pieces::fill_equal;
 use crate::pieces::fill_image;
@@ -17,8 +18,7 @@ ghost use lib.ListN.{length};
 ghost use Rattle.model.specs.Bytes.{Bytes};
 ghost use Rattle.model.specs.Layout.{Plan};
 ghost use Rattle.model.specs.DataSets.{dataOf};
-ghost use Rattle.model.specs.Evaluation.{filledWords};
-ghost use Rattle.subregions.specs.Fill.{nodeFilled, SizeSources, NodeSizes, FillSources, FillReady, NodeSources, NodeReady};
+ghost use Rattle.subregions.specs.Fill.{nodeFilled, spanFilled, SizeSources, NodeSizes, FillSources, FillReady, NodeSources, NodeReady};
 
 // Fills node j from its operands' words.
 pub fn fill_node(
@@ -29,11 +29,11 @@ pub fn fill_node(
     entry_starts: &[usize],
     member_starts: &[usize],
     node_sizes: &[usize],
-    pieces: usize,
+    span: Span,
     j: usize,
 )
-    requires { ⌜ NodeReady (now nodes) (now entries) (now members) (now «entry_starts») (now «member_starts») (now «node_sizes») pieces (length (now words)) j ⌝ }
-    ensures { λ _. ⌜ ((P : Plan) (d : Bytes) → NodeSources P d (now (nodes .entry)) (now (entries .entry)) (now (members .entry)) (now («entry_starts» .entry)) (now («member_starts» .entry)) (now («node_sizes» .entry)) pieces (length (now (words .entry))) j → now (words .exit) ≡ nodeFilled P (dataOf d) (now (words .entry)) j) ⌝ }
+    requires { ⌜ NodeReady (now nodes) (now entries) (now members) (now «entry_starts») (now «member_starts») (now «node_sizes») span (length (now words)) j ⌝ }
+    ensures { λ _. ⌜ ((P : Plan) (d : Bytes) → NodeSources P d (now (nodes .entry)) (now (entries .entry)) (now (members .entry)) (now («entry_starts» .entry)) (now («member_starts» .entry)) (now («node_sizes» .entry)) span (length (now (words .entry))) j → now (words .exit) ≡ nodeFilled P (dataOf d) span (now (words .entry)) j) ⌝ }
 {
     let kind = node_kind(nodes, j);
     let a = byte_at(nodes, j * 4 + 1);
@@ -42,17 +42,18 @@ pub fn fill_node(
     let from = usize_at(member_starts, a);
     let start = usize_at(entry_starts, b);
     let a_size = usize_at(node_sizes, a);
-    let at = j * pieces * 8;
-    let left = a * pieces * 8;
-    let right = b * pieces * 8;
+    let count = span.count;
+    let at = j * count * 8;
+    let left = a * count * 8;
+    let right = b * count * 8;
     match kind {
-        NodeKind::Supplied => fill_supplied(words, members, from, size, pieces, at),
-        NodeKind::Equal => fill_equal(words, size, pieces, at),
-        NodeKind::Union => fill_union(words, left, right, size, pieces, at),
-        NodeKind::Intersection => fill_intersection(words, left, right, size, pieces, at),
-        NodeKind::Difference => fill_difference(words, left, right, size, pieces, at),
-        NodeKind::Image => fill_image(words, entries, start, a_size, left, pieces, at),
-        NodeKind::Preimage => fill_preimage(words, entries, start, size, a_size, left, pieces, at),
+        NodeKind::Supplied => fill_supplied(words, members, from, size, span, at),
+        NodeKind::Equal => fill_equal(words, size, span, at),
+        NodeKind::Union => fill_union(words, left, right, size, count, at),
+        NodeKind::Intersection => fill_intersection(words, left, right, size, count, at),
+        NodeKind::Difference => fill_difference(words, left, right, size, count, at),
+        NodeKind::Image => fill_image(words, entries, start, a_size, left, count, at),
+        NodeKind::Preimage => fill_preimage(words, entries, start, size, a_size, left, count, at),
         NodeKind::Unknown => {}
     }
 }
@@ -71,8 +72,8 @@ pub fn node_sizes(sizes: &[u8], node_regions: &[u8], count: usize) -> [usize; 48
     table
 }
 
-// Fills all nodes in order.
-pub fn fill_all(
+// Fills the span's nodes in order.
+pub fn fill_nodes(
     words: &mut [u64],
     nodes: &[u8],
     node_regions: &[u8],
@@ -81,12 +82,12 @@ pub fn fill_all(
     members: &[u8],
     entry_starts: &[usize],
     member_starts: &[usize],
-    pieces: usize,
+    span: Span,
 )
-    requires { ⌜ FillReady (now nodes) (now «node_regions») (now sizes) (now entries) (now members) (now «entry_starts») (now «member_starts») pieces (length (now words)) ⌝ }
-    ensures { λ _. ⌜ ((P : Plan) (d : Bytes) → FillSources P d (now (nodes .entry)) (now («node_regions» .entry)) (now (sizes .entry)) (now (entries .entry)) (now (members .entry)) (now («entry_starts» .entry)) (now («member_starts» .entry)) pieces (length (now (words .entry))) → now (words .exit) ≡ filledWords P (dataOf d) (now (words .entry))) ⌝ }
+    requires { ⌜ FillReady (now nodes) (now «node_regions») (now sizes) (now entries) (now members) (now «entry_starts») (now «member_starts») span (length (now words)) ⌝ }
+    ensures { λ _. ⌜ ((P : Plan) (d : Bytes) → FillSources P d (now (nodes .entry)) (now («node_regions» .entry)) (now (sizes .entry)) (now (entries .entry)) (now (members .entry)) (now («entry_starts» .entry)) (now («member_starts» .entry)) span (length (now (words .entry))) → now (words .exit) ≡ spanFilled P (dataOf d) span (now (words .entry))) ⌝ }
 {
-    let count = nodes.len() / 4;
+    let count = span.nodes;
     let sizes_of_nodes = node_sizes(sizes, node_regions, count);
     let mut j = 0;
     while j < count {
@@ -98,7 +99,7 @@ pub fn fill_all(
             entry_starts,
             member_starts,
             &sizes_of_nodes,
-            pieces,
+            span,
             j,
         );
         j += 1;

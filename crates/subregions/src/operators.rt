@@ -15,7 +15,7 @@ ghost use Rattle.model.specs.Bytes.{u16};
 ghost use Rattle.model.specs.Words as Words;
 ghost use Rattle.model.specs.Words.{digit, fromBits, word, store};
 ghost use Rattle.bitsets.specs.Elements.{between, masked, combined, suppliedElements, bytesBits, entriesOf, through, wordAt, PieceOf};
-ghost use Rattle.subregions.specs.Operators.{WriteRoom, PieceBytesRoom, SuppliedPieceRoom, CombinedPieceRoom, EntriesRoom, EntriesAdded, ImagePieceRoom, TargetsTable, OperandSet, LookupRoom, PreimagePieceRoom};
+ghost use Rattle.subregions.specs.Operators.{noWord, WriteRoom, RangeRoom, PieceBytesRoom, SuppliedPieceRoom, CombinedPieceRoom, EntriesRoom, EntriesAdded, ImagePieceRoom, TargetsTable, OperandSet, LookupRoom, PreimagePieceRoom};
 
 // An entry of a table as a number.
 fn wide(x: u16) -> usize
@@ -34,18 +34,28 @@ pub fn write_piece(words: &mut [u64], at: usize, piece: &[u64])
     }
 }
 
-// The elements from low up to, not including, high; only the words that have one are made.
-pub fn range_piece(low: usize, high: usize) -> [u64; 8]
-    requires { ⌜ (low ≤ 512) × (high ≤ 512) ⌝ }
-    ensures { λ r. ⌜ PieceOf (between low high) r ⌝ }
+// The piece at word `at` becomes the empty set.
+fn clear_piece(words: &mut [u64], at: usize)
+    requires { ⌜ at + 8 ≤ length (now words) ⌝ }
+    ensures { λ _. ⌜ now (words .exit) ≡ store (now (words .entry)) at 8 noWord ⌝ }
 {
-    let mut piece = [0; 8];
+    for k in 0..8 {
+        words[at + k] = 0;
+    }
+}
+
+// The piece at word `at` becomes the elements from low up to, not including, high. Only the words that have one are
+// made, and where they stay: a piece made elsewhere and copied would wait for its words to be stored.
+pub fn write_range(words: &mut [u64], at: usize, low: usize, high: usize)
+    requires { ⌜ RangeRoom (now words) at low high ⌝ }
+    ensures { λ _. ⌜ now (words .exit) ≡ store (now (words .entry)) at 8 (word (between low high)) ⌝ }
+{
+    clear_piece(words, at);
     let mut w = low / 64;
     while 64 * w < high {
-        piece[w] = word_between(low, high, w);
+        words[at + w] = word_between(low, high, w);
         w += 1;
     }
-    piece
 }
 
 // Eight of a piece's bytes, which may all be known to be there.

@@ -1,37 +1,39 @@
 // The operators on a node's pieces, one after the other: eight words each, from word `at` on.
+use crate::Span;
 use crate::operators::combined_piece;
 use crate::operators::image_piece;
 use crate::operators::least;
 use crate::operators::operand_set;
 use crate::operators::preimage_piece;
-use crate::operators::range_piece;
 use crate::operators::supplied_piece;
 use crate::operators::targets;
 use crate::operators::write_piece;
+use crate::operators::write_range;
 use bitsets::words::SetOperator;
 use bitsets::words::region_masks;
 ghost use mathlib.Core.Path.{_≡_};
 ghost use Prim.Native.Nat.{_+_, _*_, _≤_, min};
 ghost use Rattle.model.specs.Words.{store};
 ghost use Rattle.bitsets.specs.declared.words.SetOperator.the-variants.{Union, Intersection, Difference};
-ghost use Rattle.subregions.specs.Pieces.{pieceWords, suppliedPieces, equalPieces, combinedPieces, imagePieces, preimagePieces, SuppliedRoom, EqualRoom, CombinedRoom, ImageRoom, PreimageRoom};
+ghost use Rattle.subregions.specs.Pieces.{pieceWords, piecesFrom, suppliedPieces, equalPieces, combinedPieces, imagePieces, preimagePieces, SuppliedRoom, EqualRoom, CombinedRoom, ImageRoom, PreimageRoom};
 
-// The pieces of a supplied partition, whose bytes begin at a place.
+// The span's pieces of a supplied partition, whose bytes begin at a place.
 pub fn fill_supplied(
     words: &mut [u64],
     members: &[u8],
     from: usize,
     size: usize,
-    pieces: usize,
+    span: Span,
     at: usize,
 )
-    requires { ⌜ SuppliedRoom (now words) from size pieces at ⌝ }
-    ensures { λ _. ⌜ now (words .exit) ≡ store (now (words .entry)) at (pieces * 8) (pieceWords (suppliedPieces (now (members .entry)) from size)) ⌝ }
+    requires { ⌜ SuppliedRoom (now words) from size span at ⌝ }
+    ensures { λ _. ⌜ now (words .exit) ≡ store (now (words .entry)) at (span .count * 8) (pieceWords (piecesFrom (span .first) (suppliedPieces (now (members .entry)) from size))) ⌝ }
 {
     let masks = region_masks(size);
     let bytes = (size + 7) / 8;
-    for i in 0..pieces {
-        let piece = supplied_piece(members, &masks, from + i * bytes);
+    let first = span.first;
+    for i in 0..span.count {
+        let piece = supplied_piece(members, &masks, from + (first + i) * bytes);
         write_piece(words, at + i * 8, &piece);
     }
 }
@@ -44,18 +46,19 @@ fn equal_start(quotient: usize, remainder: usize, i: usize) -> usize
     quotient * i + least(i, remainder)
 }
 
-// The pieces of an equal partition.
-pub fn fill_equal(words: &mut [u64], size: usize, pieces: usize, at: usize)
-    requires { ⌜ EqualRoom (now words) size pieces at ⌝ }
-    ensures { λ _. ⌜ now (words .exit) ≡ store (now (words .entry)) at (pieces * 8) (pieceWords (equalPieces size pieces)) ⌝ }
+// The span's pieces of an equal partition.
+pub fn fill_equal(words: &mut [u64], size: usize, span: Span, at: usize)
+    requires { ⌜ EqualRoom (now words) size span at ⌝ }
+    ensures { λ _. ⌜ now (words .exit) ≡ store (now (words .entry)) at (span .count * 8) (pieceWords (piecesFrom (span .first) (equalPieces size (span .pieces)))) ⌝ }
 {
+    let pieces = span.pieces;
+    let first = span.first;
     let quotient = size / pieces;
     let remainder = size % pieces;
-    for i in 0..pieces {
-        let low = equal_start(quotient, remainder, i);
-        let high = equal_start(quotient, remainder, i + 1);
-        let piece = range_piece(low, high);
-        write_piece(words, at + i * 8, &piece);
+    for i in 0..span.count {
+        let low = equal_start(quotient, remainder, first + i);
+        let high = equal_start(quotient, remainder, first + i + 1);
+        write_range(words, at + i * 8, low, high);
     }
 }
 

@@ -1,4 +1,4 @@
-//! The answer of a check or an evaluation, and its packing into 64 bits.
+//! The answers of the library's functions, and their packing into 64 bits.
 #![forbid(unsafe_code)]
 
 use std::error::Error;
@@ -8,7 +8,7 @@ use std::fmt::{self, Display, Formatter};
 /// `number => Name(place): "text", ..;`, or without `(place)` where the place is 0.
 macro_rules! refusals {
     ($($(#[$doc:meta])* $number:literal => $name:ident $(($place:ident))?: $text:literal $(, $words:expr)*;)*) => {
-        /// Why a plan, a data set or the lent words are refused; each with its number and the paper's word.
+        /// Why a plan, a data set, a question or what is lent is refused; each with its number and the paper's word.
         /// Displayed, a refusal says its number, its meaning and its place.
         ///
         /// Sections are counted from 1, everything else from 0. Symbols are the FORs and accesses in the order
@@ -89,8 +89,10 @@ refusals! {
     /// 14 Untrue: this supplied partition breaks its flags or has a bit past its last element.
     14 => InvalidPartition(number):
         "invalid supplied partition, partition {} breaks its flags or has a bit past its last element", number;
-    /// 15 Narrow: fewer words are lent than this many.
-    15 => OutputTooSmall(words): "too few words are lent, {} are needed", words;
+    /// 15 Narrow: fewer words, or fewer places in a slice, are lent than this many.
+    15 => OutputTooSmall(length): "too little room is lent, a length of {} is needed", length;
+    /// 16 Absent: the node (1), piece (2) or element (3) does not exist, or the element is not in the piece (4).
+    16 => NotFound(what): "not found, {}", absence_in_words(what);
 }
 
 /// The names of a plan's sections, from section 1 on.
@@ -117,10 +119,21 @@ fn early_end_in_words(section: u64) -> String {
     }
 }
 
+/// What is asked for and not found.
+fn absence_in_words(what: u64) -> String {
+    match what {
+        1 => "the node does not exist".to_string(),
+        2 => "the piece does not exist".to_string(),
+        3 => "the element does not exist".to_string(),
+        4 => "the element is not in the piece".to_string(),
+        _ => format!("what place {what} stands for"),
+    }
+}
+
 impl Error for Refusal {}
 
 impl Refusal {
-    /// The number the format gives this refusal, 1 to 15.
+    /// The number the format gives this refusal, 1 to 16.
     pub fn number(self) -> u8 {
         self.number_and_place().0
     }
@@ -128,6 +141,16 @@ impl Refusal {
     /// The place that goes with the number, as the format counts it; 0 if there is none.
     pub fn place(self) -> u64 {
         self.number_and_place().1
+    }
+
+    /// Packed as in every answer: the number in the low 8 bits, the place above them.
+    fn pack(self) -> u64 {
+        self.place() << 8 | u64::from(self.number())
+    }
+
+    fn unpack(packed: u64) -> Option<Refusal> {
+        let [number, ..] = packed.to_le_bytes();
+        Refusal::from_parts(number, packed >> 8)
     }
 }
 
@@ -155,7 +178,7 @@ impl Answer {
             Answer::Accepted { symbols, nodes, steps } => {
                 u64::from_le_bytes([0, symbols, nodes, steps, 0, 0, 0, 0])
             }
-            Answer::Refused(refusal) => refusal.place() << 8 | u64::from(refusal.number()),
+            Answer::Refused(refusal) => refusal.pack(),
         }
     }
 
@@ -163,8 +186,7 @@ impl Answer {
     pub fn unpack(packed: u64) -> Option<Answer> {
         match packed.to_le_bytes() {
             [0, symbols, nodes, steps, 0, 0, 0, 0] => Some(Answer::Accepted { symbols, nodes, steps }),
-            [0, ..] => None,
-            [number, ..] => Refusal::from_parts(number, packed >> 8).map(Answer::Refused),
+            _ => Refusal::unpack(packed).map(Answer::Refused),
         }
     }
 
@@ -188,6 +210,56 @@ impl From<Refusal> for Answer {
     }
 }
 
+/// What a function says that writes as much as there is to write.
+#[derive(Clone, Copy, Debug, PartialEq, Eq)]
+pub enum Written {
+    /// Done: so much of what was lent is written, and the rest kept.
+    Length(usize),
+    /// Refused, and nothing that was lent is changed.
+    Refused(Refusal),
+}
+
+impl Written {
+    /// The packed answer: number in the low 8 bits, above them the place or,
+    /// for number 0, the length.
+    pub fn pack(self) -> u64 {
+        match self {
+            Written::Length(length) => (length as u64) << 8,
+            Written::Refused(refusal) => refusal.pack(),
+        }
+    }
+
+    /// The answer a packed value stands for; none if it stands for none.
+    pub fn unpack(packed: u64) -> Option<Written> {
+        match packed.to_le_bytes() {
+            [0, ..] => usize::try_from(packed >> 8).ok().map(Written::Length),
+            _ => Refusal::unpack(packed).map(Written::Refused),
+        }
+    }
+
+    /// The length of what is written; none if it is refused.
+    pub fn length(self) -> Option<usize> {
+        match self {
+            Written::Length(length) => Some(length),
+            Written::Refused(_) => None,
+        }
+    }
+
+    /// 0 for a length, else the refusal's number.
+    pub fn number(self) -> u8 {
+        match self {
+            Written::Length(_) => 0,
+            Written::Refused(refusal) => refusal.number(),
+        }
+    }
+}
+
+impl From<Refusal> for Written {
+    fn from(refusal: Refusal) -> Written {
+        Written::Refused(refusal)
+    }
+}
+
 #[cfg(test)]
 mod tests {
     use super::*;
@@ -200,11 +272,24 @@ mod tests {
         for &number in Refusal::NUMBERS {
             for place in [0, 1, 7, 2047, 8191] {
                 let Some(refusal) = Refusal::from_parts(number, place) else { continue };
-                let answer = Answer::Refused(refusal);
-                assert_eq!(answer.pack(), place << 8 | u64::from(number));
-                assert_eq!(Answer::unpack(answer.pack()), Some(answer));
+                let packed = place << 8 | u64::from(number);
+                assert_eq!([Answer::from(refusal).pack(), Written::from(refusal).pack()], [packed; 2]);
+                assert_eq!(Answer::unpack(packed), Some(Answer::Refused(refusal)));
+                assert_eq!(Written::unpack(packed), Some(Written::Refused(refusal)));
             }
         }
+    }
+
+    #[test]
+    fn every_length_survives_packing() {
+        for length in [0, 1, 48, 6144, (1 << 56) - 1] {
+            let written = Written::Length(length);
+            assert_eq!(written.pack(), (length as u64) << 8);
+            assert_eq!(Written::unpack(written.pack()), Some(written));
+            assert_eq!((written.length(), written.number()), (Some(length), 0));
+        }
+        let refused = Written::from(Refusal::NotFound(4));
+        assert_eq!((refused.length(), refused.number()), (None, 16));
     }
 
     #[test]
@@ -216,7 +301,11 @@ mod tests {
     #[test]
     fn values_that_stand_for_nothing_are_not_read() {
         let beyond = Refusal::NUMBERS.len() as u64 + 1;
-        for packed in [beyond, 254, 255, 2 | 1 << 8, 12 | 1 << 8, 1 << 32, 1 << 63] {
+        for packed in [beyond, 254, 255, 2 | 1 << 8, 12 | 1 << 8] {
+            assert_eq!((Answer::unpack(packed), Written::unpack(packed)), (None, None), "{packed:#x}");
+        }
+        // Of three counts, but not of a length.
+        for packed in [1 << 32, 1 << 63] {
             assert_eq!(Answer::unpack(packed), None, "{packed:#x}");
         }
     }
@@ -259,7 +348,8 @@ mod tests {
                 Refusal::InvalidPartition(7),
                 "invalid supplied partition, partition 7 breaks its flags or has a bit past its last element",
             ),
-            (Refusal::OutputTooSmall(32), "too few words are lent, 32 are needed"),
+            (Refusal::OutputTooSmall(32), "too little room is lent, a length of 32 is needed"),
+            (Refusal::NotFound(1), "not found, the node does not exist"),
         ];
         assert!(texts.iter().map(|(refusal, _)| refusal.number()).eq(Refusal::NUMBERS.iter().copied()));
         for (refusal, text) in texts {
@@ -278,11 +368,19 @@ mod tests {
         let beyond = Refusal::InvalidRecord(8 * 256).to_string();
         assert_eq!(beyond, "refused 5: invalid record, section 8, record 0");
         assert!(Refusal::InvalidEntry(512).to_string().ends_with("map 1, element 0"));
+        for (what, text) in [
+            (2, "the piece does not exist"),
+            (3, "the element does not exist"),
+            (4, "the element is not in the piece"),
+            (5, "what place 5 stands for"),
+        ] {
+            assert_eq!(Refusal::NotFound(what).to_string(), format!("refused 16: not found, {text}"));
+        }
     }
 
     #[test]
     fn a_refusal_is_an_error() {
         let error: Box<dyn Error> = Refusal::OutputTooSmall(8).into();
-        assert_eq!(error.to_string(), "refused 15: too few words are lent, 8 are needed");
+        assert_eq!(error.to_string(), "refused 15: too little room is lent, a length of 8 is needed");
     }
 }

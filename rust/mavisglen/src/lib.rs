@@ -1,21 +1,22 @@
-//! Partition plans, checked and evaluated by a verified library.
+//! Partition plans, checked, evaluated and explained by a verified library.
 //!
 //! A plan names regions, pointer maps, loops, partition expressions and the lemma steps that are said to show
 //! that the expressions serve the loops. `check` judges a plan without data; `evaluate` judges it with a data
-//! set and fills words with the subregions. Every input, however damaged, gets an [`Answer`]: an acceptance, or
+//! set and fills words with the subregions; `explain` writes why an element is in one of them. Every input,
+//! however damaged, gets an answer: an acceptance ([`Answer`]) or the length of what is written ([`Written`]), or
 //! one numbered [`Refusal`] with its place. The bytes of plans and data sets are described in the repository's
 //! `docs/FORMAT.md`.
 //!
-//! The library is proved to answer as that page says; this crate hands slices to its two functions and reads
+//! The library is proved to answer as that page says; this crate hands slices to its three functions and reads
 //! their answers. The build links `libmavisglen.a`, made by `rt staticlib mavisglen`, from the repository's
 //! `target/staticlib` or from the folder named in `MAVISGLEN_LIB`. Without the feature `library`, which is on
-//! by default, nothing is linked and the two functions are left out.
+//! by default, nothing is linked and the three functions are left out.
 //!
 //! # Example
 //!
 //! ```
 //! # #[cfg(feature = "library")] {
-//! use mavisglen::{check, evaluate, Answer, Refusal, MOST_WORDS};
+//! use mavisglen::{check, evaluate, explain, Answer, Refusal, Written, LONGEST_CHAIN, MOST_WORDS};
 //!
 //! // A plan that ends after its first byte. Printed, the refusal says what is wrong, and where.
 //! let Answer::Refused(refusal) = check(&[1]) else { panic!("accepted") };
@@ -60,6 +61,19 @@
 //! let (pieces, node) = (2, 1);
 //! assert_eq!(words[node * pieces * 8], 0b101); // piece 0 reads elements 0 and 2 of region 1
 //! assert_eq!(words[(node * pieces + 1) * 8], 0b110); // piece 1 reads elements 1 and 2
+//!
+//! // Why does piece 1 read element 2? Because element 4, in its part of node 0, points there.
+//! let (mut nodes, mut elements) = ([0; LONGEST_CHAIN], [0; LONGEST_CHAIN]);
+//! match explain(&plan, &data, 1, 1, 2, &mut nodes, &mut elements) {
+//!     Written::Length(length) => {
+//!         assert_eq!(nodes[..length], [1, 0]);
+//!         assert_eq!(elements[..length], [2, 4]);
+//!     }
+//!     Written::Refused(refusal) => panic!("{refusal}"),
+//! }
+//! // Element 0 it does not read.
+//! let answer = explain(&plan, &data, 1, 1, 0, &mut nodes, &mut elements);
+//! assert_eq!(answer, Written::Refused(Refusal::NotFound(4)));
 //! # }
 //! ```
 #![deny(missing_docs)]
@@ -69,9 +83,12 @@ mod answer;
 #[cfg(feature = "library")]
 mod ffi;
 
-pub use answer::{Answer, Refusal};
+pub use answer::{Answer, Refusal, Written};
 #[cfg(feature = "library")]
-pub use ffi::{check, evaluate};
+pub use ffi::{check, evaluate, explain};
 
 /// As many words as the largest evaluation fills: 48 nodes × 16 pieces × 8 words.
 pub const MOST_WORDS: usize = 6144;
+
+/// As many pairs as the longest chain has: one for each of 48 nodes.
+pub const LONGEST_CHAIN: usize = 48;

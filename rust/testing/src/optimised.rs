@@ -4,11 +4,14 @@
 #![forbid(unsafe_code)]
 
 mod evaluation;
+mod explanation;
 mod loops;
 mod plan;
 mod steps;
 
-use mavisglen::{Answer, Refusal};
+use mavisglen::{Answer, Refusal, Written};
+
+use crate::question::Question;
 
 /// Judges a plan.
 pub fn check(plan: &[u8]) -> Answer {
@@ -30,6 +33,20 @@ fn try_evaluate(plan: &[u8], data: &[u8], words: &mut [u64]) -> Result<Answer, R
     let plan = plan::read(plan)?;
     evaluation::fill(&plan, data, words)?;
     Ok(plan.counts())
+}
+
+/// Judges a plan, a data set and what is asked and writes the chain if all are accepted.
+pub fn explain(
+    plan: &[u8],
+    data: &[u8],
+    question: Question,
+    nodes: &mut [u16],
+    elements: &mut [u16],
+) -> Written {
+    match plan::read(plan).and_then(|plan| explanation::write(&plan, data, question, nodes, elements)) {
+        Ok(length) => Written::Length(length),
+        Err(refusal) => Written::Refused(refusal),
+    }
 }
 
 /// The body of a section and what follows it.

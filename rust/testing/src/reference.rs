@@ -4,7 +4,9 @@
 
 pub mod data;
 pub mod evaluation;
+pub mod explain;
 pub mod flaw;
+pub mod grounds;
 pub mod needs;
 pub mod nodes;
 pub mod parallelizable;
@@ -15,9 +17,10 @@ pub mod statements;
 pub mod steps;
 pub mod undisturbed;
 
-use mavisglen::{Answer, Refusal};
+use mavisglen::{Answer, Refusal, Written};
 
 use crate::encode::PIECE_WORDS;
+use crate::question::Question;
 use flaw::{Flaw, Limit};
 use plan::Plan;
 
@@ -35,6 +38,17 @@ pub fn check(plan: &[u8]) -> Answer {
 /// Judges a plan and a data set and fills the words if both are accepted.
 pub fn evaluate(plan: &[u8], data: &[u8], words: &mut [u64]) -> Answer {
     Reference::default().evaluate(plan, data, words)
+}
+
+/// Judges a plan, a data set and what is asked and writes the chain if all are accepted.
+pub fn explain(
+    plan: &[u8],
+    data: &[u8],
+    question: Question,
+    nodes: &mut [u16],
+    elements: &mut [u16],
+) -> Written {
+    Reference::default().explain(plan, data, question, nodes, elements)
 }
 
 impl Reference {

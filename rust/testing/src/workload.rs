@@ -1,13 +1,17 @@
 //! Plans and data sets of a chosen size, to measure with.
 #![forbid(unsafe_code)]
 
+use std::iter;
+
 use crate::encode::{flag, limit, node, statement, DataSet, Plan};
 use crate::filed;
 use crate::generate::builder::Builder;
 use crate::generate::data;
 use crate::generate::loops::Loop;
 use crate::generate::program::Omission;
+use crate::question::Question;
 use crate::random::Random;
+use crate::reference::Reference;
 
 /// Which operators the nodes of a plan have.
 #[derive(Clone, Copy, Debug, PartialEq, Eq)]
@@ -70,6 +74,31 @@ impl Workload {
         let words = plan.nodes.len() * usize::from(data.pieces) * 8;
         Workload { name, plan: plan.encode(), data: data.encode(), words }
     }
+
+    /// A member of the last node that has any, one with the longest chain.
+    pub fn deepest_question(&self) -> Asked {
+        let reference = Reference::default();
+        let plan = reference.checked_plan(&self.plan).expect("a workload's plan is accepted");
+        let evaluated = reference.evaluated(plan, &self.data).expect("a workload's data set fits");
+        let asked_in = |node: usize, piece: usize| {
+            let members = evaluated.members(node, piece).into_iter().flatten();
+            members.map(move |element| Question { node, piece, element })
+        };
+        let with_length = |question| Asked { question, length: reference.chain(&evaluated, question).len() };
+        let deepest_in = |node: usize| {
+            let questions = (0..evaluated.data.pieces).flat_map(|piece| asked_in(node, piece));
+            questions.map(with_length).max_by_key(|asked| asked.length)
+        };
+        let deepest = (0..evaluated.plan.nodes.len()).rev().find_map(deepest_in);
+        deepest.expect("some node of a workload has members")
+    }
+}
+
+/// What is asked about a workload, and the length of the chain that explains it.
+#[derive(Clone, Copy, Debug)]
+pub struct Asked {
+    pub question: Question,
+    pub length: usize,
 }
 
 /// The filed plan A over the filed data D.
@@ -185,6 +214,29 @@ pub fn longest_loop(statements: usize) -> Workload {
     Workload::new(format!("one loop: {statements} statements, {fields} fields"), &plan, &data)
 }
 
+/// A node for each pair of the longest chain: all operators in turn, each over the node before. The map leads each
+/// element to the next, so that the last of a piece moves out of it and is held by the right of every union alone.
+pub fn longest_chain() -> Workload {
+    let (pieces, elements) = (limit::PIECES, limit::SIZE as u16);
+    let over = |latest: u8| match latest % 5 {
+        0 => [node::IMAGE, latest, 0, 0],
+        1 => [node::UNION, 0, latest, 0],
+        2 => [node::INTERSECTION, latest, latest - 1, 0],
+        3 => [node::DIFFERENCE, latest, 0, 0],
+        _ => [node::PREIMAGE, latest, 0, 0],
+    };
+    let plan = Plan {
+        regions: vec![[1]],
+        maps: vec![[0, 0, 1]],
+        nodes: iter::once([node::EQUAL, 0, 0, 0]).chain((0..limit::NODES as u8 - 1).map(over)).collect(),
+        ..Plan::default()
+    };
+    let next = (0..elements).map(|element| (element + 1) % elements).collect();
+    let data = DataSet { pieces: pieces as u8, sizes: vec![elements], maps: vec![next], supplied: vec![] };
+    let name = format!("one over the other: {} nodes, {pieces} pieces, {elements} elements", limit::NODES);
+    Workload::new(name, &plan, &data)
+}
+
 /// A loop of eight statements that reads through pointers.
 fn long_loop(builder: &mut Builder) -> Loop {
     let plan = &mut builder.plan;
@@ -215,7 +267,7 @@ mod tests {
     fn every_workload_is_accepted() {
         let mut workloads: Vec<Workload> =
             Mix::ALL.iter().map(|&mix| mixed(mix, limit::NODES, 3, 70)).collect();
-        workloads.extend([filed_example(), largest_check()]);
+        workloads.extend([filed_example(), largest_check(), longest_chain()]);
         workloads.extend([8, limit::STATEMENTS].map(longest_loop));
         for workload in workloads {
             let mut words = vec![0; workload.words];
@@ -223,5 +275,10 @@ mod tests {
             assert!(answer.is_accepted(), "{}: {answer:?}", workload.name);
             println!("{}: {answer:?}", workload.name);
         }
+    }
+
+    #[test]
+    fn the_longest_chain_has_every_node() {
+        assert_eq!(longest_chain().deepest_question().length, limit::NODES);
     }
 }

@@ -1,14 +1,18 @@
 //! The verified library against the reference. MAVISGLEN_CASES sets the
-//! number of random cases and MAVISGLEN_SEED the run.
+//! number of random cases, and of random plans to explain, and
+//! MAVISGLEN_SEED the run.
 #![forbid(unsafe_code)]
 
 mod common;
 
-use common::{loops_are_judged_by_touches, Version};
+use common::{loops_are_judged_by_touches, Compared};
 use mavisglen_testing::reference::promise::test_promise;
+use mavisglen_testing::version::Version;
 
 const DEFAULT_CASES: u64 = 250_000;
-const LIBRARY: Version = Version { check: mavisglen::check, evaluate: mavisglen::evaluate };
+/// Each with several requests.
+const DEFAULT_INQUIRIES: u64 = 100_000;
+const LIBRARY: Compared = Compared(Version::LIBRARY);
 
 /// Answers and words are the reference's. Every accepted evaluation keeps
 /// the promise, and every loop is refused or admitted as its iterations
@@ -26,6 +30,16 @@ fn random_cases_agree_and_keep_the_promise() {
     });
     println!("{accepted} of them accepted, and the promise kept");
     println!("{not_parallelizable} of them refused for a loop that is disturbed");
+}
+
+#[test]
+fn random_requests_are_explained_alike() {
+    LIBRARY.explains_random_requests_alike(DEFAULT_INQUIRIES);
+}
+
+#[test]
+fn the_filed_examples_are_explained_alike() {
+    LIBRARY.explains_the_filed_examples_alike();
 }
 
 #[test]

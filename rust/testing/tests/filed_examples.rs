@@ -1,33 +1,23 @@
 //! The filed examples, and loops judged by region and field, for every version there is.
 #![forbid(unsafe_code)]
 
-use mavisglen::{Answer, Refusal, MOST_WORDS};
+use mavisglen::{Answer, Refusal, LONGEST_CHAIN, MOST_WORDS};
 use mavisglen_testing::encode::{flag, limit, node, statement, DataSet, Plan, PIECE_WORDS};
 use mavisglen_testing::filed::{data_d, plan_a, plan_b};
-use mavisglen_testing::{optimised, reference};
-
-type Check = fn(&[u8]) -> Answer;
-type Evaluate = fn(&[u8], &[u8], &mut [u64]) -> Answer;
-
-const VERSIONS: &[(Check, Evaluate)] = &[
-    (reference::check, reference::evaluate),
-    (optimised::check, optimised::evaluate),
-    #[cfg(feature = "library")]
-    (mavisglen::check, mavisglen::evaluate),
-];
+use mavisglen_testing::version::Version;
 
 fn gives(plan: &[u8], answer: Answer) {
-    for (check, _) in VERSIONS {
-        assert_eq!(check(plan), answer);
+    for version in Version::ALL {
+        assert_eq!((version.check)(plan), answer);
     }
 }
 
 /// The first word of each piece of an accepted plan's node.
 fn first_words(plan: &Plan, data: &DataSet, node: usize) -> Vec<u64> {
     let pieces = usize::from(data.pieces);
-    let mut found = VERSIONS.iter().map(|(_, evaluate)| {
+    let mut found = Version::ALL.iter().map(|version| {
         let mut words = vec![!0; plan.nodes.len() * pieces * 8];
-        assert_eq!(evaluate(&plan.encode(), &data.encode(), &mut words).number(), 0);
+        assert_eq!((version.evaluate)(&plan.encode(), &data.encode(), &mut words).number(), 0);
         (0..pieces).map(|piece| words[(node * pieces + piece) * 8]).collect()
     });
     let first = found.next().expect("there is a version");
@@ -50,8 +40,9 @@ fn bytes(hexadecimal: &str) -> Vec<u8> {
 }
 
 #[test]
-fn the_most_words_are_those_of_the_largest_plan() {
+fn lengths_that_are_enough_are_those_of_the_largest_plan() {
     assert_eq!(MOST_WORDS, limit::NODES * limit::PIECES * PIECE_WORDS);
+    assert_eq!(LONGEST_CHAIN, limit::NODES);
 }
 
 #[test]
@@ -147,8 +138,8 @@ fn completeness_is_not_judged_by_sizes() {
     let plan = Plan { supplied: vec![[0, flag::COMPLETE]], ..one_region(vec![], vec![]) };
     let overlap = vec![vec![true, true, false], vec![false, true, false]];
     let data = DataSet { pieces: 2, sizes: vec![3], maps: vec![vec![0, 1, 2]], supplied: vec![overlap] };
-    for (_, evaluate) in VERSIONS {
-        let answer = evaluate(&plan.encode(), &data.encode(), &mut []);
+    for version in Version::ALL {
+        let answer = (version.evaluate)(&plan.encode(), &data.encode(), &mut []);
         assert_eq!(answer, Refusal::InvalidPartition(0).into());
     }
 }

@@ -11,6 +11,7 @@ use mavisglen_testing::generate::lemma::{only_broken, requirement_count, LEMMAS}
 use mavisglen_testing::generate::{Case, Generator, Origin};
 use mavisglen_testing::reference::flaw::{Flaw, Limit};
 use mavisglen_testing::reference::{self, Reference};
+use mavisglen_testing::tally::tally;
 
 const SEED: u64 = 1;
 const CASES: usize = 40_000;
@@ -35,13 +36,6 @@ fn judge(case: Case) -> Judged {
     let checked = reference::check(&case.plan);
     let evaluated = reference::evaluate(&case.plan, &case.data, &mut words);
     Judged { case, checked, evaluated, words }
-}
-
-/// How often each key occurs.
-fn tally<K: Ord>(keys: impl Iterator<Item = K>) -> BTreeMap<K, usize> {
-    let mut counts = BTreeMap::new();
-    keys.for_each(|key| *counts.entry(key).or_default() += 1);
-    counts
 }
 
 /// The records of every plan accepted in the run.

@@ -3,15 +3,26 @@
 
 mod common;
 
-use common::Version;
-use mavisglen_testing::optimised;
+use common::Compared;
+use mavisglen_testing::version::Version;
 
 const DEFAULT_CASES: u64 = 40_000;
-const OPTIMISED: Version = Version { check: optimised::check, evaluate: optimised::evaluate };
+const DEFAULT_INQUIRIES: u64 = 20_000;
+const OPTIMISED: Compared = Compared(Version::OPTIMISED);
 
 #[test]
 fn random_cases_agree() {
     OPTIMISED.agrees_on_random_cases(DEFAULT_CASES, |_, _, _| {});
+}
+
+#[test]
+fn random_requests_are_explained_alike() {
+    OPTIMISED.explains_random_requests_alike(DEFAULT_INQUIRIES);
+}
+
+#[test]
+fn the_filed_examples_are_explained_alike() {
+    OPTIMISED.explains_the_filed_examples_alike();
 }
 
 #[test]

@@ -6,10 +6,12 @@ use std::cell::RefCell;
 use std::hint::black_box;
 use std::time::{Duration, Instant};
 
-use mavisglen::Answer;
+use mavisglen::{Written, LONGEST_CHAIN};
 use mavisglen_testing::encode::limit;
-use mavisglen_testing::workload::{filed_example, largest_check, longest_loop, mixed, Mix, Workload};
-use mavisglen_testing::{optimised, reference};
+use mavisglen_testing::version::Version;
+use mavisglen_testing::workload::{
+    filed_example, largest_check, longest_chain, longest_loop, mixed, Asked, Mix, Workload,
+};
 
 /// Time for one pair of versions on one workload.
 const PAIR_BUDGET: Duration = Duration::from_millis(500);
@@ -18,25 +20,25 @@ const BATCH: Duration = Duration::from_micros(100);
 const MOST_ROUNDS: usize = 1001;
 const LEAST_ROUNDS: usize = 7;
 
-/// One version of the product.
-struct Version {
-    check: fn(&[u8]) -> Answer,
-    evaluate: fn(&[u8], &[u8], &mut [u64]) -> Answer,
-}
+const LIBRARY: Version = Version::LIBRARY;
+const REFERENCE: Version = Version::REFERENCE;
+const OPTIMISED: Version = Version::OPTIMISED;
 
-const LIBRARY: Version = Version { check: mavisglen::check, evaluate: mavisglen::evaluate };
-const REFERENCE: Version = Version { check: reference::check, evaluate: reference::evaluate };
-const OPTIMISED: Version = Version { check: optimised::check, evaluate: optimised::evaluate };
-
-/// The library beside another version on one workload: of each round, both versions' microseconds for a call.
+/// Two calls on one workload, the library's first: of each round, the microseconds of either.
 struct Rounds(Vec<[f64; 2]>);
 
 impl Rounds {
-    /// The median over the rounds of a value of the library's time and the other's.
+    /// The median over the rounds of a value of both times.
     fn median(&self, value: impl Fn(f64, f64) -> f64) -> f64 {
-        let mut values: Vec<f64> = self.0.iter().map(|&[library, other]| value(library, other)).collect();
+        let mut values: Vec<f64> = self.0.iter().map(|&[first, second]| value(first, second)).collect();
         values.sort_by(f64::total_cmp);
         values[values.len() / 2]
+    }
+
+    /// Both times, and the ratio of the first to the second.
+    fn columns(&self) -> String {
+        let [first, second] = [self.median(|first, _| first), self.median(|_, second| second)];
+        format!("{first:.3} | {second:.3} | {:.2}", self.median(|first, second| first / second))
     }
 }
 
@@ -57,6 +59,7 @@ fn main() {
     table("Evaluating, by pieces", &pieces, evaluate_rounds);
     let elements = growing(&[32, 64, 128, 256, 512].map(|elements| (24, 8, elements)));
     table("Evaluating, by elements", &elements, evaluate_rounds);
+    explaining_table();
 }
 
 /// All operators in turn, for these nodes, pieces and elements.
@@ -91,11 +94,9 @@ fn table(title: &str, workloads: &[Workload], rounds: fn(&Workload, &Version) ->
     for workload in workloads {
         let (plain, fast) = (rounds(workload, &REFERENCE), rounds(workload, &OPTIMISED));
         println!(
-            "| {} | {:.3} | {:.3} | {:.2} | {:.3} | {:.2} | {:.1} |",
+            "| {} | {} | {:.3} | {:.2} | {:.1} |",
             workload.name,
-            fast.median(|library, _| library),
-            fast.median(|_, optimised| optimised),
-            fast.median(|library, optimised| library / optimised),
+            fast.columns(),
             plain.median(|library, _| library),
             plain.median(|_, reference| reference),
             plain.median(|library, reference| reference / library)
@@ -104,17 +105,61 @@ fn table(title: &str, workloads: &[Workload], rounds: fn(&Workload, &Version) ->
     println!();
 }
 
+/// The library's explanation beside its evaluation of the same plan and data set, and beside the optimised explanation.
+/// Asked for is a member of the last node that has any, one with the longest chain.
+fn explaining_table() {
+    println!("### Explaining (checking and evaluating included)\n");
+    println!(
+        "| input | chain | explain, µs | evaluate, µs | explain / evaluate \
+         | library, µs | optimised, µs | library / optimised |"
+    );
+    println!("|---|---:|---:|---:|---:|---:|---:|---:|");
+    let mut workloads = evaluate_workloads();
+    workloads.push(longest_chain());
+    for workload in &workloads {
+        let asked = workload.deepest_question();
+        let rounds = [explain_evaluate_rounds(workload, asked), explain_rounds(workload, asked)];
+        let [beside_evaluate, beside_optimised] = rounds.map(|rounds| rounds.columns());
+        println!("| {} | {} | {beside_evaluate} | {beside_optimised} |", workload.name, asked.length);
+    }
+    println!();
+}
+
+/// A call that explains into slices of its own, tried once.
+fn explainer<'a>(version: &Version, workload: &'a Workload, asked: Asked) -> impl FnMut() -> Written + 'a {
+    let (explain, mut nodes, mut elements) = (version.explain, [0; LONGEST_CHAIN], [0; LONGEST_CHAIN]);
+    let mut call = move || {
+        let (plan, data) = (black_box(&workload.plan), black_box(&workload.data));
+        explain(plan, data, black_box(asked.question), black_box(&mut nodes), black_box(&mut elements))
+    };
+    assert_eq!(call(), Written::Length(asked.length), "{}", workload.name);
+    call
+}
+
+fn explain_rounds(workload: &Workload, asked: Asked) -> Rounds {
+    let [library, optimised] = [LIBRARY, OPTIMISED].map(|version| explainer(&version, workload, asked));
+    measure(library, optimised)
+}
+
+fn explain_evaluate_rounds(workload: &Workload, asked: Asked) -> Rounds {
+    let mut words = vec![!0; workload.words];
+    let evaluate =
+        || (LIBRARY.evaluate)(black_box(&workload.plan), black_box(&workload.data), black_box(&mut words));
+    measure(explainer(&LIBRARY, workload, asked), evaluate)
+}
+
 fn check_rounds(workload: &Workload, other: &Version) -> Rounds {
     let answers = [LIBRARY.check, other.check].map(|check| check(&workload.plan));
     assert!(answers[0].is_accepted() && answers[0] == answers[1], "{}: {answers:?}", workload.name);
-    measure([LIBRARY.check, other.check].map(|check| move || check(black_box(&workload.plan))))
+    let [library, other] = [LIBRARY.check, other.check].map(|check| move || check(black_box(&workload.plan)));
+    measure(library, other)
 }
 
 /// Both versions write the same words, so that neither is favoured by where a buffer lies.
 fn evaluate_rounds(workload: &Workload, other: &Version) -> Rounds {
     let words = RefCell::new(vec![!0; workload.words]);
     let mut expected: Option<Vec<u64>> = None;
-    measure([LIBRARY.evaluate, other.evaluate].map(|evaluate| {
+    let [library, other] = [LIBRARY.evaluate, other.evaluate].map(|evaluate| {
         let call =
             move |words: &mut [u64]| evaluate(black_box(&workload.plan), black_box(&workload.data), words);
         let answer = call(&mut words.borrow_mut());
@@ -123,24 +168,27 @@ fn evaluate_rounds(workload: &Workload, other: &Version) -> Rounds {
         assert_eq!(filled, *expected.get_or_insert_with(|| filled.clone()), "{}", workload.name);
         let words = &words;
         move || call(black_box(&mut words.borrow_mut()))
-    }))
+    });
+    measure(library, other)
 }
 
 /// Rounds of both calls, the library's first, until the time is used up.
-fn measure<F: FnMut() -> Answer>(mut calls: [F; 2]) -> Rounds {
-    let batches = calls.each_mut().map(batch_size);
+fn measure<T, U>(mut first: impl FnMut() -> T, mut second: impl FnMut() -> U) -> Rounds {
+    let batches = [batch_size(&mut first), batch_size(&mut second)];
     let mut rounds: Vec<[f64; 2]> = Vec::new();
     let start = Instant::now();
     while rounds.len() < LEAST_ROUNDS || (rounds.len() < MOST_ROUNDS && start.elapsed() < PAIR_BUDGET) {
-        rounds.push(std::array::from_fn(|version| {
-            let batch = batches[version];
-            timed(&mut calls[version], batch).as_secs_f64() * 1e6 / f64::from(batch)
-        }));
+        rounds.push([per_call(&mut first, batches[0]), per_call(&mut second, batches[1])]);
     }
     Rounds(rounds)
 }
 
-fn timed(call: &mut impl FnMut() -> Answer, batch: u32) -> Duration {
+/// Microseconds for a call, of a batch.
+fn per_call<T>(call: &mut impl FnMut() -> T, batch: u32) -> f64 {
+    timed(call, batch).as_secs_f64() * 1e6 / f64::from(batch)
+}
+
+fn timed<T>(call: &mut impl FnMut() -> T, batch: u32) -> Duration {
     let start = Instant::now();
     for _ in 0..batch {
         black_box(call());
@@ -149,7 +197,7 @@ fn timed(call: &mut impl FnMut() -> Answer, batch: u32) -> Duration {
 }
 
 /// Calls that together last about as long as a batch should.
-fn batch_size(call: &mut impl FnMut() -> Answer) -> u32 {
+fn batch_size<T>(call: &mut impl FnMut() -> T) -> u32 {
     let mut batch = 1;
     while batch < 1 << 20 && timed(call, batch) < BATCH {
         batch *= 2;

@@ -9,28 +9,35 @@ use super::plan::Plan;
 use super::take_section;
 use crate::encode::{flag, limit, node, EDITION, NONE, PIECE_WORDS};
 
-type Piece = [u64; PIECE_WORDS];
+pub type Piece = [u64; PIECE_WORDS];
 
 /// A data set in place; entries are two bytes each.
-struct Data<'a> {
-    pieces: usize,
+pub struct Data<'a> {
+    pub pieces: usize,
     sizes: &'a [[u8; 2]],
-    maps: [&'a [[u8; 2]]; limit::MAPS],
+    pub maps: [&'a [[u8; 2]]; limit::MAPS],
     supplied: [&'a [u8]; limit::SUPPLIED],
 }
 
 impl Data<'_> {
     #[inline]
-    fn size(&self, region: u8) -> usize {
+    pub fn size(&self, region: u8) -> usize {
         usize::from(u16::from_be_bytes(self.sizes[usize::from(region)]))
     }
 }
 
-/// Judges the data set and the slice and writes every node.
-pub fn fill(plan: &Plan, bytes: &[u8], words: &mut [u64]) -> Result<(), Refusal> {
+/// Judges the data set.
+#[inline(always)]
+pub fn read<'a>(plan: &Plan, bytes: &'a [u8]) -> Result<Data<'a>, Refusal> {
     let data = cut(plan, bytes).ok_or(Refusal::InvalidData)?;
     judge_entries(plan, &data)?;
     judge_partitions(plan, &data)?;
+    Ok(data)
+}
+
+/// Judges the data set and the slice and writes every node.
+pub fn fill(plan: &Plan, bytes: &[u8], words: &mut [u64]) -> Result<(), Refusal> {
+    let data = read(plan, bytes)?;
     let needed = plan.nodes.len() * data.pieces * PIECE_WORDS;
     let Some(words) = words.get_mut(..needed) else { return Err(Refusal::OutputTooSmall(needed as u64)) };
     let (pieces, _) = words.as_chunks_mut();
@@ -120,7 +127,7 @@ fn judge_partitions(plan: &Plan, data: &Data) -> Result<(), Refusal> {
 
 /// The elements below a number.
 #[inline]
-fn below(end: usize) -> Piece {
+pub fn below(end: usize) -> Piece {
     let (full, partial) = (end / 64, (1 << (end % 64)) - 1);
     std::array::from_fn(|word| match word.cmp(&full) {
         Ordering::Less => !0,
@@ -131,7 +138,7 @@ fn below(end: usize) -> Piece {
 
 /// Bytes with the highest bit first, turned into words with the lowest first.
 #[inline]
-fn supplied_piece(data: &Data, number: usize, region: u8, piece: usize) -> Piece {
+pub fn supplied_piece(data: &Data, number: usize, region: u8, piece: usize) -> Piece {
     let length = data.size(region).div_ceil(8);
     let bytes = &data.supplied[number][piece * length..(piece + 1) * length];
     let mut words = [0; PIECE_WORDS];
@@ -200,7 +207,7 @@ fn combine(a: &[Piece], b: &[Piece], out: &mut [Piece], operator: impl Fn(u64, u
 const SPARE_WORDS: usize = 16;
 
 #[inline]
-fn image(entries: &[[u8; 2]], of: &Piece) -> Piece {
+pub fn image(entries: &[[u8; 2]], of: &Piece) -> Piece {
     let mut words = [0u64; SPARE_WORDS];
     for (&word, entries) in of.iter().zip(entries.chunks(64)) {
         let mut bits = word;
@@ -217,7 +224,7 @@ fn image(entries: &[[u8; 2]], of: &Piece) -> Piece {
 
 /// Entries are decoded once for all pieces of a node.
 #[inline]
-fn fill_preimage(entries: &[[u8; 2]], of: &[Piece], out: &mut [Piece]) {
+pub fn fill_preimage(entries: &[[u8; 2]], of: &[Piece], out: &mut [Piece]) {
     let mut decoded = [NONE; limit::SIZE];
     let decoded = &mut decoded[..entries.len()];
     decoded.iter_mut().zip(entries).for_each(|(decoded, &entry)| *decoded = u16::from_be_bytes(entry));

@@ -1,13 +1,54 @@
 //! The pieces of every node, as sets, and their words.
 #![forbid(unsafe_code)]
 
+use mavisglen::Refusal;
+
 use super::data::{DataSet, Set};
 use super::flaw::Flaw;
 use super::plan::{Expression, Node, Plan};
 use super::Reference;
 use crate::encode::PIECE_WORDS;
 
+/// A plan and a data set that fits it, with the sets of all nodes.
+#[derive(Clone, Debug)]
+pub struct Evaluated {
+    pub plan: Plan,
+    pub data: DataSet,
+    /// By node and piece.
+    partitions: Vec<Vec<Set>>,
+}
+
+impl Evaluated {
+    /// The members of a node's piece, ascending; none if there is no such piece.
+    pub fn members(&self, node: usize, piece: usize) -> Option<impl Iterator<Item = usize> + '_> {
+        Some(self.partitions.get(node)?.get(piece)?.iter().copied())
+    }
+
+    /// Whether a node's piece has an element; what does not exist has none.
+    pub fn has(&self, node: usize, piece: usize, element: usize) -> bool {
+        let pieces = self.partitions.get(node);
+        pieces.and_then(|pieces| pieces.get(piece)).is_some_and(|members| members.contains(&element))
+    }
+
+    /// The size of a node's region; 0 if there is no such node.
+    pub fn size(&self, node: usize) -> usize {
+        self.plan.nodes.get(node).map_or(0, |node| self.data.sizes[node.region])
+    }
+
+    /// Whether a map leads from one element to another.
+    pub fn leads(&self, map: usize, from: usize, to: usize) -> bool {
+        self.data.maps[map].get(from) == Some(&Some(to))
+    }
+}
+
 impl Reference {
+    /// The sets of a checked plan over a data set: refusals 12 to 14.
+    pub fn evaluated(&self, plan: Plan, data: &[u8]) -> Result<Evaluated, Refusal> {
+        let data = self.read_data(&plan, data, usize::MAX)?;
+        let partitions = self.partitions(&plan, &data);
+        Ok(Evaluated { plan, data, partitions })
+    }
+
     /// Writes every piece of every node; later words keep what they held.
     pub(super) fn store(&self, plan: &Plan, data: &DataSet, words: &mut [u64]) {
         let partitions = self.partitions(plan, data);

@@ -163,9 +163,71 @@ pub enum Flaw {
     WholeRegionHandedOut,
     WritesBeforeJudgingTheSlice,
     WantsASpareWord,
+
+    // What a chain goes to.
+    UnionAlwaysToItsLeft,
+    UnionToItsSecondFirst,
+    IntersectionToItsSecond,
+    DifferenceToItsRight,
+    ImageToItsLastElement,
+    ImageFromOutsideThePiece,
+    PreimageKeepsTheElement,
+    ChainOfOnePair,
+    ChainBackwards,
+
+    // What is asked about, and where the chain is written.
+    OnlyNodesSliceJudged,
+    OnlyElementsSliceJudged,
+    LongerSliceJudged,
+    WantsASparePair,
+    WantsTheLongestChain,
+    SlicesJudgedBeforeQuestion,
+    ElementJudgedByLimit,
+    HighestPlaceGiven,
+    PieceJudgedFirst,
+    NodeJudgedBeforeData,
+    PieceUnjudged,
+    PieceJudgedByLimit,
+    QuestionCutTo { bits: u32 },
+    LaterPairsCleared,
+    PairsWrittenBeforeJudgingSlices,
 }
 
 impl Flaw {
+    /// Flaws in what a chain goes to.
+    pub const CHAIN: [Flaw; 9] = [
+        Flaw::UnionAlwaysToItsLeft,
+        Flaw::UnionToItsSecondFirst,
+        Flaw::IntersectionToItsSecond,
+        Flaw::DifferenceToItsRight,
+        Flaw::ImageToItsLastElement,
+        Flaw::ImageFromOutsideThePiece,
+        Flaw::PreimageKeepsTheElement,
+        Flaw::ChainOfOnePair,
+        Flaw::ChainBackwards,
+    ];
+
+    /// Flaws in judging what is asked about and in writing the chain.
+    pub const EXPLAINING: [Flaw; 17] = [
+        Flaw::OnlyNodesSliceJudged,
+        Flaw::OnlyElementsSliceJudged,
+        Flaw::LongerSliceJudged,
+        Flaw::WantsASparePair,
+        Flaw::WantsTheLongestChain,
+        Flaw::SlicesJudgedBeforeQuestion,
+        Flaw::ElementJudgedByLimit,
+        Flaw::HighestPlaceGiven,
+        Flaw::PieceJudgedFirst,
+        Flaw::NodeJudgedBeforeData,
+        Flaw::PieceUnjudged,
+        Flaw::PieceJudgedByLimit,
+        Flaw::QuestionCutTo { bits: 8 },
+        Flaw::QuestionCutTo { bits: 16 },
+        Flaw::QuestionCutTo { bits: 32 },
+        Flaw::LaterPairsCleared,
+        Flaw::PairsWrittenBeforeJudgingSlices,
+    ];
+
     /// Flaws in which loops the parallelizable rule refuses.
     pub const PARALLELIZABLE: [Flaw; 17] = [
         Flaw::WriteMayBeUncentered,
@@ -187,7 +249,7 @@ impl Flaw {
         Flaw::LoopsJudgedTogether,
     ];
 
-    /// Every flaw there is.
+    /// Every flaw in checking and evaluating.
     pub fn all() -> Vec<Flaw> {
         let mut flaws = [&Flaw::PARALLELIZABLE[..], &OTHERS].concat();
         flaws.extend(Limit::ALL.map(Flaw::Lower));

@@ -1,6 +1,8 @@
 //! What the tests that compare a version with the reference share.
 #![forbid(unsafe_code)]
 
+mod explain;
+
 use std::env;
 
 use mavisglen::{Answer, Refusal};
@@ -9,15 +11,39 @@ use mavisglen_testing::filed::{data_d, plan_a, plan_b};
 use mavisglen_testing::generate::{Case, Generator};
 use mavisglen_testing::meaning::Meaning;
 use mavisglen_testing::reference;
-use mavisglen_testing::workload::{filed_example, largest_check, longest_loop, mixed, Mix};
+use mavisglen_testing::version::Version;
+use mavisglen_testing::workload::{filed_example, largest_check, longest_chain, longest_loop, mixed, Mix};
 
-/// The version that is compared with the reference.
-pub struct Version {
-    pub check: fn(&[u8]) -> Answer,
-    pub evaluate: fn(&[u8], &[u8], &mut [u64]) -> Answer,
+/// A version that is compared with the reference.
+pub struct Compared(pub Version);
+
+/// A slice to lend, between values that must stay as they are.
+struct Guarded<T> {
+    all: Vec<T>,
+    guard: T,
 }
 
-const GUARD: [u64; 8] = [0x5A5A_A5A5_0F0F_F0F0; 8];
+impl<T: Copy + PartialEq> Guarded<T> {
+    const MARGIN: usize = 8;
+
+    fn new(old: &[T], guard: T) -> Guarded<T> {
+        let margin = [guard].repeat(Self::MARGIN);
+        Guarded { all: [&margin, old, &margin].concat(), guard }
+    }
+
+    fn lent(&mut self) -> &mut [T] {
+        let end = self.all.len() - Self::MARGIN;
+        &mut self.all[Self::MARGIN..end]
+    }
+
+    /// What the slice holds after.
+    fn written(mut self) -> Vec<T> {
+        let written = self.lent().to_vec();
+        let guarded = [&self.all[..Self::MARGIN], &self.all[Self::MARGIN + written.len()..]].concat();
+        assert!(guarded.iter().all(|&value| value == self.guard), "values outside the slice were written");
+        written
+    }
+}
 
 /// What both make of one input.
 struct Comparison {
@@ -27,17 +53,14 @@ struct Comparison {
     words: [Vec<u64>; 2],
 }
 
-impl Version {
+impl Compared {
     fn compare(&self, plan: &[u8], data: &[u8], old_words: &[u64]) -> Comparison {
-        let checked = [reference::check(plan), (self.check)(plan)];
+        let checked = [reference::check(plan), (self.0.check)(plan)];
         let mut expected = old_words.to_vec();
         let first = reference::evaluate(plan, data, &mut expected);
-        // The slice lent lies between words that must stay as they are.
-        let mut around = [&GUARD, old_words, &GUARD].concat();
-        let second = (self.evaluate)(plan, data, &mut around[GUARD.len()..][..old_words.len()]);
-        let (words, guard) = around[GUARD.len()..].split_at(old_words.len());
-        assert!(around[..GUARD.len()] == GUARD && *guard == GUARD, "words outside the slice were written");
-        Comparison { checked, evaluated: [first, second], words: [expected, words.to_vec()] }
+        let mut words = Guarded::new(old_words, 0x5A5A_A5A5_0F0F_F0F0);
+        let second = (self.0.evaluate)(plan, data, words.lent());
+        Comparison { checked, evaluated: [first, second], words: [expected, words.written()] }
     }
 
     /// Random cases; each is handed on with its answer and final words.
@@ -58,9 +81,11 @@ impl Version {
         for plan in [plan_a().encode(), plan_b().encode()] {
             for altered in altered_once(&plan) {
                 self.compare(&altered, &data, &words).must_agree(|| "altered plan".into(), &altered, &data);
+                self.explains_altered_alike(&altered, &data);
             }
             for altered in altered_once(&data) {
                 self.compare(&plan, &altered, &words).must_agree(|| "altered data".into(), &plan, &altered);
+                self.explains_altered_alike(&plan, &altered);
             }
         }
     }
@@ -74,7 +99,7 @@ impl Version {
             for &third in &accesses {
                 let plan = loop_of(&[first, second, third]).encode();
                 let answer = reference::check(&plan);
-                assert_eq!((self.check)(&plan), answer, "{first:?} {second:?} {third:?}");
+                assert_eq!((self.0.check)(&plan), answer, "{first:?} {second:?} {third:?}");
                 loops_are_judged_by_touches(&plan, answer);
                 numbers[usize::from(answer.number())] += 1;
             }
@@ -91,7 +116,7 @@ impl Version {
             let plan = loop_of_targets(read, reduced).encode();
             let refusal =
                 if read == reduced { Refusal::NotParallelizable(0) } else { Refusal::AssignmentCount(3) };
-            let answers = [reference::check(&plan), (self.check)(&plan)];
+            let answers = [reference::check(&plan), (self.0.check)(&plan)];
             assert_eq!(answers, [Answer::Refused(refusal); 2], "targets {read} and {reduced}");
         }
     }
@@ -99,11 +124,18 @@ impl Version {
     /// The plans that the benchmark measures, in full size.
     pub fn agrees_on_the_largest_plans(&self) {
         let mut workloads: Vec<_> = Mix::ALL.iter().map(|&mix| mixed(mix, 48, 16, 512)).collect();
-        workloads.extend([filed_example(), largest_check(), longest_loop(limit::STATEMENTS)]);
+        workloads.extend([
+            filed_example(),
+            largest_check(),
+            longest_loop(limit::STATEMENTS),
+            longest_chain(),
+        ]);
         for workload in workloads {
             let comparison = self.compare(&workload.plan, &workload.data, &vec![!0; workload.words + 3]);
             assert!(comparison.evaluated[0].is_accepted(), "{}", workload.name);
             comparison.must_agree(|| workload.name.clone(), &workload.plan, &workload.data);
+            let length = self.explains_workload_alike(&workload);
+            println!("{}: a chain of {length}", workload.name);
         }
     }
 }

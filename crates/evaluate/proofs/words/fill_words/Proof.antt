@@ -1,45 +1,25 @@
--- The sections are those of plan and data set, and lie where the inputs say. Assumes nothing.
-use denote.Ref.{now}
+-- All nodes and pieces, in a span whose words are the final words. Assumes nothing.
 use native.Mathlib.Omega.{arith}
+use mathlib.Core.Path.{ap, _∙_}
 use lib.ListN.{length}
+use Prim.Native.Nat.{_/_}
+use Rattle.model.specs.Bytes.{Bytes}
 use borrow.Author.Needs.{needs}
-use Rattle.model.specs.Layout.{planOf}
-use Rattle.subregions.specs.Fill.{FillSources}
 use Rattle.primitives.proofs.Bodies.{fewer}
-use Rattle.evaluate.proofs.Stages.{fill-sources}
+use Rattle.evaluate.proofs.Spans.{whole-ready, whole-filled}
 use Rattle.evaluate.proofs.words.fill_words.Statement.{statement}
 use Rattle.evaluate.proofs.words.fill_words.Tie as tie
-
--- from the last section that is cut to the first, and on to the start
-abbrev nodes-cut : tie.After-section-body4 → tie.After-section-body
-nodes-cut m = m .before .before .before .before .before
-
-abbrev start : tie.After-section-body4 → tie.Start
-start m = nodes-cut m .before .before .before .before
-
--- what the fills ask for
-sources : (m : tie.After-piece-count) →
-    (let c = m .before .before .before .before .before .before .before in
-    let a = start c .args in
-    FillSources (planOf (now (a .plan))) (now (a .«data»)) (now (nodes-cut c .section-body .result)) (a .reading .«node_regions») (now (c .before .before .section-body2 .result))
-    (now (c .before .section-body3 .result)) (now (c .section-body4 .result)) (a .layout .«entry_starts») (a .layout .«member_starts») (m .piece-count .result) (length (now (a .words))))
-sources m =
-    let c = m .before .before .before .before .before .before .before in
-    fill-sources (start c .pre) (nodes-cut c .section-body .ensures) (c .before .before .section-body2 .ensures) (c .before .section-body3 .ensures) (c .section-body4 .ensures)
-    (m .piece-count .ensures .0)
 
 pub fill-words-spec : {M : Type 1} → statement M
 fill-words-spec =
     tie.close
     (tie.spec
-    (λ c κs. fewer (c .before .before .before .pre .accepted .delimited) (omega arith))
-    (λ c κs. fewer (c .before .before .before .before .before .before .pre .placed .delimited) (omega arith))
-    (λ c κs. fewer (c .before .before .before .before .before .before .before .pre .placed .delimited) (omega arith))
+    (λ c κs. fewer (c .before .before .before .pre .inputs .accepted .delimited) (omega arith))
     (λ c κs. search needs)
-    (λ c. search (start (c .before .before .before .before) .good .1 .0, needs))
-    (λ c. search (start (c .before .before .before .before .before) .good .1 .1 .1 .0, needs))
-    (λ c. search (start (c .before .before .before .before .before .before) .good .1 .1 .1 .0, needs))
-    (λ c κs. search needs)
-    (λ c κs. record { plan = _; bytes = _; sources = sources c })
+    (λ c κs.
+    whole-ready (c .before .before .before .before .before .before .pre) (ap (λ (nodes : Bytes). length nodes / 4) (c .before .before .section-body .ensures))
+    (c .before .piece-count .ensures .0))
     (λ c. search needs)
-    (λ c. c .before .before .fill-all .ensures _ _ (sources (c .before .before .before))))
+    (λ c.
+    c .before .before .fill-span .ensures
+    ∙ whole-filled _ _ _ (ap (λ (nodes : Bytes). length nodes / 4) (c .before .before .before .before .before .section-body .ensures)) (c .before .before .before .before .piece-count .ensures .0)))

@@ -1,4 +1,4 @@
--- The value stays below 65536. Assumes nothing.
+-- The value stays within 64 bits. Assumes nothing.
 use Prim.Native.Nat.{_-_, _≤_, _<_}
 use lib.ListN.{length}
 use borrow.Author.Needs.{needs}
@@ -6,7 +6,7 @@ use Rattle.examples.proofs.tokens.number.Statement.{statement}
 use Rattle.examples.proofs.tokens.number.Tie as tie
 
 abbrev Inv-loop : tie.InvT-loop
-Inv-loop word value₀ at₀ value at = (value < 65536) × (at ≤ length word)
+Inv-loop word value₀ at₀ value at = (value < 18446744073709551616) × (at ≤ length word)
 
 abbrev μ-loop : tie.MeasureT-loop
 μ-loop word value₀ at₀ value at = length word - at
@@ -17,5 +17,6 @@ number-spec =
     (tie.spec
     Inv-loop
     μ-loop
-    (λ c. search needs) (λ c κs. search needs) (λ c. search needs) (λ c. search needs) (λ c. search needs) (λ c. search needs)
-    (λ c κs. search needs) (λ c. search needs) (λ c. search needs) (λ c. search needs) (λ c. search needs) (λ c. search needs))
+    (λ c. search needs) (λ c κs. search needs) (λ c. search needs) (λ c. search needs) (λ c. search needs) (λ c κs. search needs)
+    (λ c. search needs) (λ c. search needs) (λ c. search needs) (λ c. search needs) (λ c. search needs) (λ c. search needs)
+    (λ c. search needs) (λ c. search needs))

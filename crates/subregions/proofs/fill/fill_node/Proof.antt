@@ -11,7 +11,7 @@ use Rattle.model.specs.declared.NodeKind.{NodeKind}
 use Rattle.subregions.proofs.NodePieces.{product}
 use Rattle.subregions.specs.Fill.{NodeSources}
 use Rattle.subregions.proofs.NodeOperators.{known-kind, unites, intersects, subtracts}
-use Rattle.subregions.proofs.NodeFill.{OperandsRead, operands-read, few-nodes, few-pieces, supplied-room, supplied-done, equal-room, equal-done, combined-room, combined-done, image-room, image-done, preimage-room, preimage-done}
+use Rattle.subregions.proofs.NodeFill.{OperandsRead, operands-read, node-listed, few-nodes, few-pieces, supplied-room, supplied-done, equal-room, equal-done, combined-room, combined-done, image-room, image-done, preimage-room, preimage-done}
 use borrow.Author.Needs.{needs}
 use Rattle.subregions.proofs.fill.fill_node.Statement.{statement}
 use Rattle.subregions.proofs.fill.fill_node.Tie as tie
@@ -28,7 +28,7 @@ sized x = x .before .before .before
 abbrev Sources : tie.After-usize-at4 → Plan → Bytes → Type 0
 Sources x P d =
     let a = start x .args in
-    NodeSources P d (a .nodes .now) (a .entries .now) (a .members .now) (a .entry-starts .now) (a .member-starts .now) (a .node-sizes .now) (a .pieces)
+    NodeSources P d (a .nodes .now) (a .entries .now) (a .members .now) (a .entry-starts .now) (a .member-starts .now) (a .node-sizes .now) (a .span)
     (length (a .words .now)) (a .j)
 
 -- its operands and its kind, as the plan has them
@@ -41,13 +41,13 @@ kind-is : (x : tie.After-usize-at4) {P : Plan} {d : Bytes} → Sources x P d →
 kind-is x {P} h told = sym (sized x .before .before .before .node-kind .ensures P (sym (h .sources .nodes-are))) ∙ told
 
 -- the places of its own pieces and of its operands' are small numbers
-own-place : (x : tie.After-usize-at4) → start x .args .j * start x .args .pieces ≤ 48 * 16
+own-place : (x : tie.After-usize-at4) → start x .args .j * start x .args .span .count ≤ 48 * 16
 own-place x = let h = start x .pre .sources in product _ _ 48 16 (omega (arith, few-nodes h)) (few-pieces h)
 
-left-place : (x : tie.After-usize-at4) → sized x .before .before .byte-at .result * start x .args .pieces ≤ 256 * 16
+left-place : (x : tie.After-usize-at4) → sized x .before .before .byte-at .result * start x .args .span .count ≤ 256 * 16
 left-place x = product _ _ 256 16 (omega (arith, sized x .before .before .byte-at .ensures .1)) (few-pieces (start x .pre .sources))
 
-right-place : (x : tie.After-usize-at4) → sized x .before .byte-at2 .result * start x .args .pieces ≤ 256 * 16
+right-place : (x : tie.After-usize-at4) → sized x .before .byte-at2 .result * start x .args .span .count ≤ 256 * 16
 right-place x = product _ _ 256 16 (omega (arith, sized x .before .byte-at2 .ensures .1)) (few-pieces (start x .pre .sources))
 
 fill-supplied-requires : tie.Need-fill-supplied-requires
@@ -66,19 +66,19 @@ fill-union-requires : tie.Need-fill-union-requires
 fill-union-requires c κs =
     let x = c .before .before .before in
     let h = start x .pre .sources in
-    combined-room _ h (read x h) (sized x .usize-at .ensures) (unites _ _ (h .sources .facts) _ (h .node-listed) (kind-is x h (c .before .enum-told3 .given .1)))
+    combined-room _ h (read x h) (sized x .usize-at .ensures) (unites _ _ (h .sources .facts) _ (node-listed h) (kind-is x h (c .before .enum-told3 .given .1)))
 
 fill-intersection-requires : tie.Need-fill-intersection-requires
 fill-intersection-requires c κs =
     let x = c .before .before .before in
     let h = start x .pre .sources in
-    combined-room _ h (read x h) (sized x .usize-at .ensures) (intersects _ _ (h .sources .facts) _ (h .node-listed) (kind-is x h (c .before .enum-told4 .given .1)))
+    combined-room _ h (read x h) (sized x .usize-at .ensures) (intersects _ _ (h .sources .facts) _ (node-listed h) (kind-is x h (c .before .enum-told4 .given .1)))
 
 fill-difference-requires : tie.Need-fill-difference-requires
 fill-difference-requires c κs =
     let x = c .before .before .before in
     let h = start x .pre .sources in
-    combined-room _ h (read x h) (sized x .usize-at .ensures) (subtracts _ _ (h .sources .facts) _ (h .node-listed) (kind-is x h (c .before .enum-told5 .given .1)))
+    combined-room _ h (read x h) (sized x .usize-at .ensures) (subtracts _ _ (h .sources .facts) _ (node-listed h) (kind-is x h (c .before .enum-told5 .given .1)))
 
 fill-image-requires : tie.Need-fill-image-requires
 fill-image-requires c κs =
@@ -108,19 +108,19 @@ returns-3 : tie.Need-returns-3
 returns-3 c =
     let x = c .before .before .before .before .before .before in
     λ P d h. combined-done _ h (read x h) (sized x .usize-at .ensures)
-    (unites _ _ (h .sources .facts) _ (h .node-listed) (kind-is x h (c .before .before .before .before .enum-told3 .given .1))) (c .before .before .fill-union .ensures)
+    (unites _ _ (h .sources .facts) _ (node-listed h) (kind-is x h (c .before .before .before .before .enum-told3 .given .1))) (c .before .before .fill-union .ensures)
 
 returns-4 : tie.Need-returns-4
 returns-4 c =
     let x = c .before .before .before .before .before .before in
     λ P d h. combined-done _ h (read x h) (sized x .usize-at .ensures)
-    (intersects _ _ (h .sources .facts) _ (h .node-listed) (kind-is x h (c .before .before .before .before .enum-told4 .given .1))) (c .before .before .fill-intersection .ensures)
+    (intersects _ _ (h .sources .facts) _ (node-listed h) (kind-is x h (c .before .before .before .before .enum-told4 .given .1))) (c .before .before .fill-intersection .ensures)
 
 returns-5 : tie.Need-returns-5
 returns-5 c =
     let x = c .before .before .before .before .before .before in
     λ P d h. combined-done _ h (read x h) (sized x .usize-at .ensures)
-    (subtracts _ _ (h .sources .facts) _ (h .node-listed) (kind-is x h (c .before .before .before .before .enum-told5 .given .1))) (c .before .before .fill-difference .ensures)
+    (subtracts _ _ (h .sources .facts) _ (node-listed h) (kind-is x h (c .before .before .before .before .enum-told5 .given .1))) (c .before .before .fill-difference .ensures)
 
 returns-6 : tie.Need-returns-6
 returns-6 c =
@@ -137,7 +137,7 @@ returns-7 c =
 returns-8 : tie.Need-returns-8
 returns-8 c =
     let x = c .before .before in
-    λ P d h. absurd (known-kind P (dataOf d) (h .sources .facts) _ (h .node-listed) (kind-is x h (c .enum-told8 .given .1)))
+    λ P d h. absurd (known-kind P (dataOf d) (h .sources .facts) _ (node-listed h) (kind-is x h (c .enum-told8 .given .1)))
 
 pub fill-node-spec : {M : Type 1} → statement M
 fill-node-spec =

@@ -11,7 +11,7 @@ use Rattle.model.specs.Words.{bit}
 use Rattle.subregions.specs.Operators.{SetOf}
 use Rattle.subregions.proofs.Maps.{gathered, gathered-none, gathered-next, gathered-all, entry-cut}
 use Rattle.subregions.proofs.Piece.{set-same, set-added}
-use Rattle.subregions.proofs.Zeros.{Lowest, lowest}
+use Rattle.bitsets.proofs.Zeros.{Lowest, lowest}
 use borrow.Author.Needs.{needs}
 use Rattle.subregions.proofs.operators.add_entries.Statement.{statement}
 use Rattle.subregions.proofs.operators.add_entries.Tie as tie

@@ -81,6 +81,7 @@ lowest-cleared (suc d) w b some small = go (λ b n. lowest-cleared d (w / 2) b n
 pub record Lowest (members t : ℕ) : Type 0 where
   pub inside : t < 64
   pub member : Is (bit members t)
+  pub none-below : (b : ℕ) → b < t → bit members b ≡ false
   pub cleared : (b : ℕ) → bit (bitAnd members (members - 1)) b ≡ (bit members b and non (b == t))
 
 pub lowest : (members t : ℕ) → members < 2 ^ 64 → (members ≡ 0 → ⊥) → t ≡ trailingZeros 64 members → Lowest members t
@@ -88,5 +89,6 @@ lowest members t small some is =
     record {
       inside = rw is (zeros-few 64 64 members (omega arith) some small);
       member = rw is (zeros-one 64 64 members (omega arith) some small);
+      none-below = λ b lt. zeros-low 64 members b (omega arith);
       cleared = λ b. rw is (lowest-cleared 64 members b some small);
     }

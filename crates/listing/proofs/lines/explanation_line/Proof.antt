@@ -1,0 +1,31 @@
+-- By whether the number is 0. Assumes nothing.
+use borrow.Author.Tests.{ne-eqb}
+use Rattle.model.specs.Tests.{_==_}
+use Rattle.model.proofs.Tests.{same!, pick-true, pick-false}
+use Rattle.listing.specs.Text.{explanationText}
+use borrow.Author.Needs.{needs}
+use Rattle.listing.proofs.lines.explanation_line.Statement.{statement}
+use Rattle.listing.proofs.lines.explanation_line.Tie as tie
+
+returns : tie.Need-returns
+unfolding explanationText
+returns c =
+    let report = c .before .before .before .before .before .before .report-written .ensures in
+    let zero = rw report at (c .before .before .before .before .if1 .taken) in
+    rw (pick-true _ _ _ (same! zero)) (rw report at (c .before .before .explained-line .ensures))
+
+returns-2 : tie.Need-returns-2
+unfolding explanationText _==_
+returns-2 c =
+    let report = c .before .before .before .before .before .before .report-written .ensures in
+    let other = rw report at (c .before .before .before .before .if1 .left) in
+    rw (pick-false _ _ _ (ne-eqb _ _ other)) (rw report at (c .before .before .refused-line .ensures))
+
+pub explanation-line-spec : {M : Type 1} → statement M
+explanation-line-spec =
+    tie.close
+    (tie.spec
+    (λ c κs. search needs) (λ c κs. search needs) (λ c κs. search needs) (λ c. search needs)
+    returns
+    (λ c. search needs)
+    returns-2)

@@ -1,0 +1,5 @@
+pub mod LeastSources
+pub mod NextPairs
+pub mod Walks
+pub mod Questions
+pub mod Explanations

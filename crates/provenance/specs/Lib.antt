@@ -1,0 +1,3 @@
+pub mod Sources
+pub mod Chain
+pub mod Question
