@@ -109,7 +109,7 @@ in-use-most false h = let e = same h in omega arith
 -- what the form of step t says of its record
 pub formed-step : {step : Step} {t : ℕ} {x y p q : Bool} (row : Lemma) (count : ℕ) → x ≡ inUse (row .x) count (step .x)
     → y ≡ inUse (row .y) count (step .y) → p ≡ inUse (row .p) t (step .p) → q ≡ inUse (row .q) t (step .q)
-    → Is (1 ≤? step .lemma and step .lemma ≤? 20 and x and y and p and q) → FormedStep step t
+    → Is (1 ≤? step .lemma and step .lemma ≤? 21 and x and y and p and q) → FormedStep step t
 formed-step row count x y p q formed =
     let operands = both (both (both (both formed .1) .1) .1) .1 in
     record {

@@ -53,10 +53,10 @@ pub record StepRead (P : Plan) (t : ℕ) (r : Step) : Type 0 where
   pub p : r .p ≡ stepP P t
   pub q : r .q ≡ stepQ P t
 
--- the lemma is one of the 20, and p and q are steps up to t
+-- the lemma is one of the 21, and p and q are steps up to t
 pub record FormedStep (step : Step) (t : ℕ) : Type 0 where
   pub from : 1 ≤ step .lemma
-  pub to : step .lemma ≤ 20
+  pub to : step .lemma ≤ 21
   pub p : step .p ≤ t
   pub q : step .q ≤ t
 

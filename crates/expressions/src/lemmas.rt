@@ -1,11 +1,11 @@
-// The table of the 20 lemmas: what each concludes, and which of a step's numbers it uses.
+// The table of the 21 lemmas: what each concludes, and which of a step's numbers it uses.
 use model::Conclusion;
 use model::Lemma;
 ghost use mathlib.Core.Path.{_≡_};
 ghost use Prim.Native.Nat.{_-_};
 ghost use Rattle.model.specs.Lemmas.{lemmaRow};
 
-const LEMMAS: [Lemma; 20] = [
+const LEMMAS: [Lemma; 21] = [
     Lemma {
         conclusion: Conclusion::Disjoint, // 1 DISJ(x): x is equal
         x: true,
@@ -146,6 +146,13 @@ const LEMMAS: [Lemma; 20] = [
         p: true,
         q: false,
     },
+    Lemma {
+        conclusion: Conclusion::Disjoint, // 21 DISJ(x): x is the private part of an image of a, p is DISJ(a)
+        x: true,
+        y: false,
+        p: true,
+        q: false,
+    },
 ];
 
 // The row of a number that is no lemma: nothing is used.
@@ -169,5 +176,5 @@ pub fn lemma_row(lemma: usize) -> Lemma
     ensures { λ r. ⌜ r ≡ lemmaRow lemma ⌝ }
 {
     let place = row_place(lemma);
-    if place < 20 { LEMMAS[place] } else { NO_LEMMA }
+    if place < 21 { LEMMAS[place] } else { NO_LEMMA }
 }

@@ -16,8 +16,9 @@ use primitives::bytes::byte_at;
 use primitives::records::map_totality;
 use primitives::records::supplied_flags;
 ghost use mathlib.Core.Path.{_≡_};
-ghost use Prim.Native.Nat.{_≤_};
+ghost use Prim.Native.Nat.{_+_, _*_, _^_, _≤_, _<_};
 ghost use Rattle.model.specs.Layout.{Plan};
+ghost use Rattle.model.specs.Lemmas.{isNode};
 ghost use Rattle.expressions.specs.Steps.{StepSources, StepBytes};
 ghost use Rattle.expressions.specs.Licences.{licensedAs, licensedAmong, PremiseKeys};
 
@@ -112,7 +113,33 @@ fn complete_licensed(maps: &[u8], nodes: &[u8], step: Step, premises: Premises) 
         | ((lemma == 20) & ((x.kind == PREIMAGE) & ((totality == 1) & operand_complete)))
 }
 
-// Whether a step of one of the 20 lemmas is by that lemma.
+// Whether node j is of this kind, with these two numbers.
+fn is_node(nodes: &[u8], j: usize, kind: usize, a: usize, b: usize) -> bool
+    requires { ⌜ j * 4 + 3 < 2 ^ 64 ⌝ }
+    ensures { λ r. ⌜ ((P : Plan) → P .nodes ≡ now (nodes .entry) → r ≡ isNode P j kind a b) ⌝ }
+{
+    let node = node_at(nodes, j);
+    (node.kind == kind) & ((node.a == a) & (node.b == b))
+}
+
+// Lemma 21: DISJ of the private part of an image. x is F minus the image under f of (G minus P), where F is the image of P
+// under f and G the preimage of F under f.
+fn private_licensed(nodes: &[u8], step: Step, premises: Premises) -> bool
+    requires { ⌜ StepBytes step ⌝ }
+    ensures { λ r. ⌜ ((P : Plan) → P .nodes ≡ now (nodes .entry) → PremiseKeys P step premises → r ≡ licensedAmong P 21 1 step) ⌝ }
+{
+    let lemma = step.lemma;
+    let x = node_at(nodes, step.x);
+    let shared = node_at(nodes, x.b);
+    let rest = node_at(nodes, shared.a);
+    let image = is_node(nodes, x.a, IMAGE, rest.b, shared.b);
+    let preimage = is_node(nodes, rest.a, PREIMAGE, x.a, shared.b);
+    let operand_disjoint = premises.p == disjoint_key(rest.b);
+    let parts = (shared.kind == IMAGE) & ((rest.kind == DIFFERENCE) & (image & preimage));
+    (lemma == 21) & (((x.kind == DIFFERENCE) & parts) & operand_disjoint)
+}
+
+// Whether a step of one of the 21 lemmas is by that lemma.
 pub fn is_licensed(
     maps: &[u8],
     supplied: &[u8],
@@ -122,7 +149,7 @@ pub fn is_licensed(
     premises: Premises,
 ) -> bool
     requires { ⌜ StepBytes step ⌝ }
-    ensures { λ r. ⌜ ((P : Plan) → StepSources P (now (maps .entry)) (now (supplied .entry)) (now (nodes .entry)) (now (steps .entry)) → PremiseKeys P step premises → 1 ≤ step .lemma → step .lemma ≤ 20 → r ≡ licensedAs P step (step .lemma)) ⌝ }
+    ensures { λ r. ⌜ ((P : Plan) → StepSources P (now (maps .entry)) (now (supplied .entry)) (now (nodes .entry)) (now (steps .entry)) → PremiseKeys P step premises → 1 ≤ step .lemma → step .lemma ≤ 21 → r ≡ licensedAs P step (step .lemma)) ⌝ }
 {
     let lemma = step.lemma;
     match lemma {
@@ -130,6 +157,7 @@ pub fn is_licensed(
         6..=11 => operator_licensed(nodes, steps, step, premises),
         12..=14 => map_licensed(nodes, steps, step, premises),
         15..=18 => disjoint_licensed(nodes, step, premises),
-        _ => complete_licensed(maps, nodes, step, premises),
+        19..=20 => complete_licensed(maps, nodes, step, premises),
+        _ => private_licensed(nodes, step, premises),
     }
 }

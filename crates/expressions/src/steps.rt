@@ -96,7 +96,7 @@ fn is_formed(nodes: &[u8], step: Step, row: Lemma, t: usize) -> bool
     let y = in_use(row.y, count, step.y);
     let p = in_use(row.p, t, step.p);
     let q = in_use(row.q, t, step.q);
-    (1 <= step.lemma) & ((step.lemma <= 20) & (x & (y & (p & q))))
+    (1 <= step.lemma) & ((step.lemma <= 21) & (x & (y & (p & q))))
 }
 
 // What steps p and q of a step conclude.

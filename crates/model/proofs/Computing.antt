@@ -9,7 +9,7 @@ use Rattle.model.specs.Layout.{shapes, shapeOf, sectionCheck, layoutChec
 use Rattle.model.specs.Statements.{kindOf, opensLoop, definesVariable, accessOf, isAccess, kind, opens, defines, accesses, loopBefore, variables, definition, operandBy, operand, operandDefinition, fieldBy, accessField, regionBy, variableRegion, centeredBy, centered, statementFormedBy, statementFormed, statementAgreesBy, statementAgrees, statementCheck}
 use Rattle.model.specs.Parallel.{isRead, isWrite, isReduce, reads, writes, reduces, uncentered, accessOfLoop, sameTarget, conflicts, parallelizable, loopCheck, reducesThroughPointer}
 use Rattle.model.specs.Nodes.{nodeKindOf, nodeKindAt, nodeFormedBy, nodeFormed, nodeRegionBy, nodeRegionStep, nodeRegion, nodeAgreesBy, nodeAgrees, sameNode, duplicateNode, nodeCheck}
-use Rattle.model.specs.Lemmas.{lemmas, lemmaRow, inUse, isSubset, isDisjoint, isComplete, concludesSubset, concludesDisjoint, concludesComplete, operandOf, licences, licence, stepFormed, stepLicensed, stepCheck}
+use Rattle.model.specs.Lemmas.{lemmas, lemmaRow, inUse, isSubset, isDisjoint, isComplete, concludesSubset, concludesDisjoint, concludesComplete, operandOf, isNode, isPrivatePart, licences, licence, stepFormed, stepLicensed, stepCheck}
 use Rattle.model.specs.Needs.{hasSymbol, symbol, symbolRegion, assignmentCountCheck, assignmentCheck, imageNode, boundBy, bound, loopNeedsMet, accessNeedMet, needCheck}
 use Rattle.model.specs.Declarations.{regionCheck, mapCheck, suppliedCheck}
 use Rattle.model.specs.Verdict.{recordsCheck, planCheck, verdict}
@@ -28,7 +28,7 @@ unfolding
     operandDefinition regionBy variableRegion centeredBy centered statementFormedBy statementFormed statementAgreesBy statementAgrees
     isRead isWrite isReduce reads writes reduces uncentered accessOfLoop sameTarget conflicts parallelizable reducesThroughPointer
     nodeKindOf nodeKindAt nodeFormedBy nodeFormed nodeRegionBy nodeRegionStep nodeRegion nodeAgreesBy nodeAgrees sameNode duplicateNode
-    lemmas lemmaRow inUse isSubset isDisjoint isComplete concludesSubset concludesDisjoint concludesComplete operandOf licences licence
+    lemmas lemmaRow inUse isSubset isDisjoint isComplete concludesSubset concludesDisjoint concludesComplete operandOf isNode isPrivatePart licences licence
     stepFormed stepLicensed hasSymbol symbol symbolRegion imageNode boundBy bound loopNeedsMet accessNeedMet
     union intersection difference image preimage contiguous equalStart
     size entryStart entry low past mapsTo pieceBytes memberStart suppliedBit supplied equal nodeSetsBy nodeSets member

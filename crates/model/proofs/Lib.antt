@@ -23,6 +23,8 @@ pub mod Partitions
 pub mod Accepted
 pub mod Fitting
 pub mod NodeSets
+pub mod PrivateParts
+pub mod PrivateExamples
 pub mod Steps
 pub mod Bounds
 pub mod SubregionsAgree

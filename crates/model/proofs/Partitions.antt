@@ -1,8 +1,9 @@
 -- The law behind each lemma, of all partitions and all maps to sets: no plan here. Only the laws of 14 and 18 ask for a map with at most
--- one target to an element, and only that of 20 for one with at least one. Assumes nothing.
+-- one target to an element, only that of 20 for one with at least one, and only that of 21 for one whose targets are the n elements it has.
+-- Assumes nothing.
 use Prim.Native.Nat.{ℕ, zero, suc, _≤_, _<_}
 use mathlib.Core.Path.{_≡_, refl}
-use mathlib.Core.Logic.{inl, inr}
+use mathlib.Core.Logic.{inl, inr, _↔_}
 use mathlib.Core.Bool.{Bool, true, false}
 use native.Mathlib.Nat.{le-refl, le-trans, mod-lt, div-add-mod'}
 use native.Mathlib.Decide.{le-ind}
@@ -11,7 +12,7 @@ use lib.Dec.{ltb}
 use borrow.Author.Tests.{ltb-true, ltb-false}
 use Rattle.model.specs.Tests.{Is}
 use Rattle.model.specs.Partitions.{Partition, Map, union, intersection, difference, image, preimage, contiguous, equalStart, Contained, PairwiseDisjoint, Covering}
-use Rattle.model.proofs.Tests.{both, pair, either, one, less, less!, most, most!, some-of, among}
+use Rattle.model.proofs.Tests.{both, pair, either, one, lacks, refuted, split, less, less!, most, most!, some-of, among}
 
 -- at most one target to an element
 abbrev pub SingleValued : Map → Type 0
@@ -142,6 +143,37 @@ module _ (m n : ℕ) (f : Map) where
       let t = total k lt in
       let r = c (t .0) (t .1) in
       (r .0, r .1, in-preimage n f A (t .1) (t .2) (r .2))
+
+  -- the private part of the image of A: F minus the image of (G minus A), where F is that image and G the preimage of F
+  abbrev pub privatePart : Partition → Partition
+  privatePart A = difference (image m f A) (image m f (difference (preimage n f (image m f A)) A))
+
+  module _ (targets : (k e : ℕ) → Is (f k e) → e < n) (A : Partition) where
+    -- it holds the elements of the image to which no element outside the piece leads
+    pub private-exactly :
+        (i e : ℕ) → Is (privatePart A i e) ↔ (Is (image m f A i e) × ((k : ℕ) → k < m → Is (f k e) → Is (A i k)))
+    unfolding difference
+    private-exactly i e = (λ h. (both h .0, alone h), λ w. pair (w .0) (refuted (unshared w)))
+      where
+        rest : Partition
+        rest = difference (preimage n f (image m f A)) A
+
+        alone : Is (privatePart A i e) → (k : ℕ) → k < m → Is (f k e) → Is (A i k)
+        alone h k lt g =
+            elim (split (A i k)) [
+              | inl inside ↦ inside
+              | inr outside ↦
+                  absurd (lacks (both h .1) (in-image m f rest lt (pair (in-preimage n f (image m f A) (targets k e g) g (both h .0)) outside) g))
+            ]
+
+        unshared : Is (image m f A i e) × ((k : ℕ) → k < m → Is (f k e) → Is (A i k)) → Is (image m f rest i e) → ⊥
+        unshared w h = let r = of-image m f rest h in lacks (both (r .2) .1) (w .1 (r .0) (r .1) (r .3))
+
+    -- lemma 21
+    pub private-disjoint : PairwiseDisjoint A → PairwiseDisjoint (privatePart A)
+    private-disjoint d i j e h g =
+        let r = of-image m f A (private-exactly j e .0 g .0) in
+        d i j (r .0) (private-exactly i e .0 h .1 (r .0) (r .1) (r .3)) (r .2)
 
   pub image-within : {A : Partition} {N : ℕ} → ((k e : ℕ) → Is (f k e) → e < n) → Within N m A → Within N n (image m f A)
   image-within {A} targets w i e h = let r = of-image m f A h in (w i (r .0) (r .2) .0, targets (r .0) e (r .3))

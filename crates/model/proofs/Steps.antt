@@ -19,6 +19,7 @@ use Rattle.model.proofs.Tests.{falsum, both, either, same, less, most, 
 use Rattle.model.proofs.Recursion.{by-earlier}
 use Rattle.model.proofs.Partitions.{subset-refl, subset-trans, union-contains-left, union-contains-right, union-least, intersection-subset-left, intersection-subset-right, intersection-greatest, difference-subset, image-monotone, preimage-monotone, image-of-preimage, subset-disjoint, intersection-disjoint-left, intersection-disjoint-right, difference-disjoint, preimage-disjoint, superset-complete, preimage-complete, contiguous-disjoint, contiguous-complete}
 use Rattle.model.proofs.Fitting.{Fit}
+use Rattle.model.proofs.PrivateParts.{private-pieces-disjoint}
 use Rattle.model.proofs.NodeSets.{OneOperand, supplied-node, equal-node, union-node, intersection-node, difference-node, image-node, preimage-node}
 
 is-subset : (c : Conclusion) → Is (isSubset c) → c ≡ Subset
@@ -271,12 +272,17 @@ module _ (P : Plan) (D : DataSet) (F : Facts P) (fit : Fit P D) where
       (preimage-complete _ _ _ (fit .total (nodeB P x) (n .map-listed) (same total))
       (rw (n .operand-region) at (complete-of P D p (nodeA P x) premise (u .p-true refl))))
 
-  sound : (l : ℕ) → 1 ≤ l → l ≤ 20 → Sound P D l
+  lemma-21 : Sound P D 21
+  unfolding lemmaRow lemmas licence licences
+  lemma-21 x y p q u h =
+      private-pieces-disjoint P D F x (u .x-listed refl) (both h .0) fit (disjoint-of P D p _ (both h .1) (u .p-true refl))
+
+  sound : (l : ℕ) → 1 ≤ l → l ≤ 21 → Sound P D l
   sound l some few =
-      at-each (Sound P D) 1 20
+      at-each (Sound P D) 1 21
       (lemma-1 also lemma-2 also lemma-3 also lemma-4 also lemma-5 also lemma-6 also lemma-7 also lemma-8 also lemma-9 also lemma-10
       also lemma-11 also lemma-12 also lemma-13 also lemma-14 also lemma-15 also lemma-16 also lemma-17 also lemma-18 also lemma-19
-      also lemma-20 also tt)
+      also lemma-20 also lemma-21 also tt)
       l some (omega arith)
 
   -- every step's conclusion is true

@@ -1,4 +1,4 @@
--- "Lemma steps": the table of 20 rows, what a step concludes, and when it is by its lemma.
+-- "Lemma steps": the table of 21 rows, what a step concludes, and when it is by its lemma.
 use Prim.Native.Nat.{ℕ, _+_, _-_, _*_}
 use mathlib.Core.List.{List, [], _∷_}
 use mathlib.Core.Bool.{Bool, true, false}
@@ -17,8 +17,8 @@ use Rattle.model.specs.declared.Lemma.{Lemma}
 abbrev pub row : Conclusion → Bool → Bool → Bool → Bool → Lemma
 row conclusion x y p q = record { conclusion = conclusion; x = x; y = y; p = p; q = q }
 
--- "One constant table of 20 rows says what each concludes and uses": x, y, p, q.
--- "Every SUB uses y, and so do 15 and 19; 6, 8, 10 and 12 to 20 use p; 6, 8, 10, 15 and 19 use q"
+-- One constant table "says what each concludes and uses": x, y, p, q.
+-- "Every SUB uses y, and so do 15 and 19; 6, 8, 10 and 12 to 20 use p; 6, 8, 10, 15 and 19 use q"; 21 uses x and p
 unfoldable pub lemmas : List Lemma
 lemmas =
     row Disjoint true false false false
@@ -41,6 +41,7 @@ lemmas =
     ∷ row Disjoint true false true false
     ∷ row Complete true true true true
     ∷ row Complete true false true false
+    ∷ row Disjoint true false true false
     ∷ []
 
 -- lemmas are numbered from 1
@@ -85,6 +86,30 @@ module _ (P : Plan) where
   unfoldable pub operandOf : ℕ → ℕ → Bool
   operandOf j k = nodeA P j == k or nodeB P j == k
 
+  -- node j is of this kind, with these two numbers
+  unfoldable pub isNode : ℕ → ℕ → ℕ → ℕ → Bool
+  isNode j kind a b = nodeKind P j == kind and nodeA P j == a and nodeB P j == b
+
+  -- lemma 21 is Theorem 5.1 of 001. Of x, which is F minus the image under f of (G minus P): G minus P, its operands G and P, and the map f
+  abbrev pub privateRest : ℕ → ℕ
+  privateRest x = nodeA P (nodeB P x)
+
+  abbrev pub privatePreimage : ℕ → ℕ
+  privatePreimage x = nodeA P (privateRest x)
+
+  abbrev pub privateOperand : ℕ → ℕ
+  privateOperand x = nodeB P (privateRest x)
+
+  abbrev pub privateMap : ℕ → ℕ
+  privateMap x = nodeB P (nodeB P x)
+
+  -- "x is F minus the image under f of (G minus P), where F is the image of P under f and G the preimage of F under f"
+  unfoldable pub isPrivatePart : ℕ → Bool
+  isPrivatePart x =
+      nodeKind P x == DIFFERENCE and nodeKind P (nodeB P x) == IMAGE and nodeKind P (privateRest x) == DIFFERENCE
+      and isNode (nodeA P x) IMAGE (privateOperand x) (privateMap x)
+      and isNode (privatePreimage x) PREIMAGE (nodeA P x) (privateMap x)
+
   -- the licence of each lemma, as the list of lemmas has it: what x, y and the steps p and q must be
   unfoldable pub licences : List (ℕ → ℕ → ℕ → ℕ → Bool)
   licences =
@@ -111,6 +136,7 @@ module _ (P : Plan) where
       ∷ (λ x y p q. nodeKind P x == PREIMAGE and concludesDisjoint p (nodeA P x))
       ∷ (λ x y p q. concludesComplete p y and concludesSubset q y x)
       ∷ (λ x y p q. nodeKind P x == PREIMAGE and totality P (nodeB P x) == 1 and concludesComplete p (nodeA P x))
+      ∷ (λ x y p q. isPrivatePart x and concludesDisjoint p (privateOperand x))
       ∷ []
 
   -- lemma l is licensed for the nodes x and y and the steps p and q
@@ -120,7 +146,7 @@ module _ (P : Plan) where
   -- Stray: an unknown lemma; x and y are nodes, "p and q are earlier steps"
   unfoldable pub stepFormed : ℕ → Bool
   stepFormed t =
-      1 ≤? stepLemma P t and stepLemma P t ≤? 20
+      1 ≤? stepLemma P t and stepLemma P t ≤? 21
       and inUse (lemmaRow (stepLemma P t) .x) (nodeCount P) (stepX P t)
       and inUse (lemmaRow (stepLemma P t) .y) (nodeCount P) (stepY P t)
       and inUse (lemmaRow (stepLemma P t) .p) t (stepP P t)

@@ -18,12 +18,12 @@ pub data SectionLength (section n : ℕ) : Type 0 where
   assignments : section ≡ 6 → n ≤ 64 → SectionLength section n
   steps : {k : ℕ} → section ≡ 7 → n ≡ k * 5 → k ≤ 128 → SectionLength section n
 
--- "Every SUB uses y, and so do 15 and 19; 6, 8, 10 and 12 to 20 use p; 6, 8, 10, 15 and 19 use q"
+-- "Every SUB uses y, and so do 15 and 19; 6, 8, 10 and 12 to 20 use p; 6, 8, 10, 15 and 19 use q"; 21 uses p
 abbrev pub UsesY : ℕ → Type 0
 UsesY l = ((5 ≤ l) × (l ≤ 14)) ⊎ ((l ≡ 15) ⊎ (l ≡ 19))
 
 abbrev pub UsesP : ℕ → Type 0
-UsesP l = (l ≡ 6) ⊎ ((l ≡ 8) ⊎ ((l ≡ 10) ⊎ ((12 ≤ l) × (l ≤ 20))))
+UsesP l = (l ≡ 6) ⊎ ((l ≡ 8) ⊎ ((l ≡ 10) ⊎ ((12 ≤ l) × (l ≤ 21))))
 
 abbrev pub UsesQ : ℕ → Type 0
 UsesQ l = (l ≡ 6) ⊎ ((l ≡ 8) ⊎ ((l ≡ 10) ⊎ ((l ≡ 15) ⊎ (l ≡ 19))))
@@ -93,7 +93,7 @@ module _ (P : Plan) where
     pub b : nodeB P j ≡ nodeB P k
     pub unused : nodeUnused P j ≡ nodeUnused P k
 
-  -- "Conclusions are SUB(x, y), DISJ(x) or COMP(x)": 5 to 14 conclude SUB; 1, 3 and 15 to 18 DISJ; 2, 4, 19 and 20 COMP
+  -- "Conclusions are SUB(x, y), DISJ(x) or COMP(x)": 5 to 14 conclude SUB; 1, 3, 15 to 18 and 21 DISJ; 2, 4, 19 and 20 COMP
   pub record ConcludesSubset (t x y : ℕ) : Type 0 where
     pub low : 5 ≤ stepLemma P t
     pub high : stepLemma P t ≤ 14
@@ -102,7 +102,7 @@ module _ (P : Plan) where
 
   pub record ConcludesDisjoint (t x : ℕ) : Type 0 where
     pub lemma :
-        (stepLemma P t ≡ 1) ⊎ ((stepLemma P t ≡ 3) ⊎ ((15 ≤ stepLemma P t) × (stepLemma P t ≤ 18)))
+        (stepLemma P t ≡ 1) ⊎ ((stepLemma P t ≡ 3) ⊎ (((15 ≤ stepLemma P t) × (stepLemma P t ≤ 18)) ⊎ (stepLemma P t ≡ 21)))
     pub x-is : stepX P t ≡ x
 
   pub record ConcludesComplete (t x : ℕ) : Type 0 where
@@ -112,7 +112,7 @@ module _ (P : Plan) where
 
   -- section 7: a known lemma, nodes x and y, "p and q are earlier steps", "Unused bytes are 0"
   pub record StepFormed (t : ℕ) : Type 0 where
-    pub known : (1 ≤ stepLemma P t) × (stepLemma P t ≤ 20)
+    pub known : (1 ≤ stepLemma P t) × (stepLemma P t ≤ 21)
     pub x-node : stepX P t < nodeCount P
     pub y-node : UsesY (stepLemma P t) → stepY P t < nodeCount P
     pub y-unused : (UsesY (stepLemma P t) → ⊥) → stepY P t ≡ 0
@@ -120,6 +120,25 @@ module _ (P : Plan) where
     pub p-unused : (UsesP (stepLemma P t) → ⊥) → stepP P t ≡ 0
     pub q-earlier : UsesQ (stepLemma P t) → stepQ P t < t
     pub q-unused : (UsesQ (stepLemma P t) → ⊥) → stepQ P t ≡ 0
+
+  -- node j has these numbers: kind, a, b
+  pub record NodeIs (j kind a b : ℕ) : Type 0 where
+    pub kind-is : nodeKind P j ≡ kind
+    pub a-is : nodeA P j ≡ a
+    pub b-is : nodeB P j ≡ b
+
+  -- "x is F minus the image under f of (G minus P), where F is the image of P under f and G the preimage of F under f", P being the operand
+  pub record PrivatePart (x operand : ℕ) : Type 0 where
+    pub image : ℕ
+    pub shared : ℕ
+    pub rest : ℕ
+    pub preimage : ℕ
+    pub map : ℕ
+    pub x-is : NodeIs x 4 image shared
+    pub shared-is : NodeIs shared 5 rest map
+    pub rest-is : NodeIs rest 4 preimage operand
+    pub image-is : NodeIs image 5 operand map
+    pub preimage-is : NodeIs preimage 6 image map
 
   -- the list of lemmas, a clause each: lemma l is licensed for nodes x, y and steps p, q
   pub data Licence (l x y p q : ℕ) : Type 0 where
@@ -153,6 +172,8 @@ module _ (P : Plan) where
     lemma-19 : l ≡ 19 → ConcludesComplete p y → ConcludesSubset q y x → Licence l x y p q
     lemma-20 :
         l ≡ 20 → nodeKind P x ≡ 6 → totality P (nodeB P x) ≡ 1 → ConcludesComplete p (nodeA P x) → Licence l x y p q
+    -- 001's Theorem 5.1
+    lemma-21 : {operand : ℕ} → l ≡ 21 → PrivatePart x operand → ConcludesDisjoint p operand → Licence l x y p q
 
   -- what the symbol of statement s needs is concluded by steps
   pub record NeedsConcluded (s : ℕ) : Type 0 where

@@ -1,4 +1,4 @@
-//! The filed examples.
+//! The filed examples, and one like them of a private part.
 #![forbid(unsafe_code)]
 
 use crate::encode::{node, statement, DataSet, Plan};
@@ -29,6 +29,33 @@ pub fn plan_b() -> Plan {
         steps: vec![[2, 0, 0, 0, 0], [20, 1, 0, 0, 0], [5, 1, 1, 0, 0], [14, 2, 0, 2, 0]],
         ..plan_a()
     }
+}
+
+/// Plan A, and the private part of its image: node 5, disjoint by its last step.
+pub fn plan_with_private_part() -> Plan {
+    let mut plan = plan_a();
+    plan.nodes.truncate(1);
+    plan.nodes.extend(private_part(0));
+    plan.steps.extend([[1, 0, 0, 0, 0], [21, 5, 0, 3, 0]]);
+    plan
+}
+
+/// The five nodes that follow P and are the private part of its image under map 0: the image F, its preimage G, G minus
+/// P, the image of that, and F minus that image.
+pub fn private_part(of: u8) -> [[u8; 4]; 5] {
+    let [image, sources, others, shared] = [1, 2, 3, 4].map(|after| of + after);
+    [
+        [node::IMAGE, of, 0, 0],
+        [node::PREIMAGE, image, 0, 0],
+        [node::DIFFERENCE, sources, of, 0],
+        [node::IMAGE, others, 0, 0],
+        [node::DIFFERENCE, image, shared, 0],
+    ]
+}
+
+/// All of them, each for data D.
+pub fn plans() -> [Plan; 3] {
+    [plan_a(), plan_b(), plan_with_private_part()]
 }
 
 /// Data D: five elements that point to three, in two pieces.

@@ -12,6 +12,7 @@ pub mod lemma;
 pub mod limits;
 pub mod loops;
 pub mod miss;
+pub mod private_part;
 pub mod program;
 pub mod request;
 

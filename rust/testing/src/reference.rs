@@ -11,6 +11,7 @@ pub mod needs;
 pub mod nodes;
 pub mod parallelizable;
 pub mod plan;
+pub mod private_part;
 pub mod promise;
 pub mod sections;
 pub mod statements;

@@ -7,6 +7,7 @@ use crate::encode::{flag, limit, node, statement, DataSet, Plan};
 use crate::filed;
 use crate::generate::builder::Builder;
 use crate::generate::data;
+use crate::generate::lemma::LEMMAS;
 use crate::generate::loops::Loop;
 use crate::generate::program::Omission;
 use crate::question::Question;
@@ -168,12 +169,17 @@ fn add_node(builder: &mut Builder, mix: Mix, kind: u8) {
     };
 }
 
-/// The plan with most to check: 64 statements, 48 nodes, 128 steps.
+/// The plan with most to check: 64 statements, 48 nodes, 128 steps, of every lemma some.
 pub fn largest_check() -> Workload {
     let mut random = Random::new(13);
-    let mut builder = Builder::new(&mut random, tables(Mix::AllInTurn));
+    let supplied = (0..limit::SUPPLIED as u8).map(|number| [0, number % 4]).collect();
+    let mut builder = Builder::new(&mut random, Plan { supplied, ..tables(Mix::AllInTurn) });
     builder.most_nodes = 40;
     builder.most_steps = 100;
+    // The last lemma takes most nodes. In a region without maps or supplied partitions there may be no step.
+    for lemma in (1..=LEMMAS).rev() {
+        (0..10 * limit::REGIONS).find_map(|_| builder.instance(lemma, 0));
+    }
     fill(&mut builder);
     (builder.most_nodes, builder.most_steps) = (limit::NODES, limit::STEPS);
     for _ in 0..limit::STATEMENTS / 8 {
@@ -252,7 +258,7 @@ fn long_loop(builder: &mut Builder) -> Loop {
 
 /// Random steps by every lemma, and random nodes, until there is no room.
 fn fill(builder: &mut Builder) {
-    for lemma in (1..=20).cycle().take(2000) {
+    for lemma in (1..=LEMMAS).cycle().take(2000) {
         builder.instance(lemma, 2);
         builder.some_node(0, 2);
     }
@@ -262,6 +268,7 @@ fn fill(builder: &mut Builder) {
 mod tests {
     use super::*;
     use crate::reference;
+    use crate::tally::tally;
 
     #[test]
     fn every_workload_is_accepted() {
@@ -275,6 +282,14 @@ mod tests {
             assert!(answer.is_accepted(), "{}: {answer:?}", workload.name);
             println!("{}: {answer:?}", workload.name);
         }
+    }
+
+    #[test]
+    fn the_largest_check_has_every_lemma() {
+        let plan = Plan::decode(&largest_check().plan).expect("a workload's plan is well framed");
+        let lemmas = tally(plan.steps.into_iter().map(|step| step[0]));
+        println!("{lemmas:?}");
+        assert!(lemmas.into_keys().eq(1..=LEMMAS));
     }
 
     #[test]

@@ -1,9 +1,9 @@
-//! The filed examples, and loops judged by region and field, for every version there is.
+//! The filed examples, private parts, and loops judged by region and field, for every version there is.
 #![forbid(unsafe_code)]
 
 use mavisglen::{Answer, Refusal, LONGEST_CHAIN, MOST_WORDS};
-use mavisglen_testing::encode::{flag, limit, node, statement, DataSet, Plan, PIECE_WORDS};
-use mavisglen_testing::filed::{data_d, plan_a, plan_b};
+use mavisglen_testing::encode::{flag, limit, node, statement, DataSet, Plan, NONE, PIECE_WORDS};
+use mavisglen_testing::filed::{data_d, plan_a, plan_b, plan_with_private_part, private_part};
 use mavisglen_testing::version::Version;
 
 fn gives(plan: &[u8], answer: Answer) {
@@ -131,6 +131,98 @@ fn a_preimage_under_a_partial_map_is_not_complete() {
     let nodes = vec![[node::EQUAL, 0, 0, 0], [node::PREIMAGE, 0, 0, 0]];
     let plan = one_region(nodes, vec![[2, 0, 0, 0, 0], [20, 1, 0, 0, 0]]);
     gives(&plan.encode(), Refusal::UnlicensedStep(1).into());
+}
+
+#[test]
+fn a_private_part_is_evaluated() {
+    let mut plan = plan_with_private_part();
+    gives(&plan.encode(), Answer::Accepted { symbols: 4, nodes: 6, steps: 5 });
+    // 0 and 1 lead to 0, 3 leads to 1; 2 and 4, of both pieces, lead to 2.
+    let sets = [
+        [0b00111, 0b11000],
+        [0b101, 0b110],
+        [0b10111, 0b11100],
+        [0b10000, 0b00100],
+        [0b100, 0b100],
+        [0b001, 0b010],
+    ];
+    for (node, words) in sets.into_iter().enumerate() {
+        assert_eq!(first_words(&plan, &data_d(), node), words, "node {node}");
+    }
+    // Of the pieces {0, 1}, {2, 3} and {4, 5} the first two lead to 0, the last two to 1, and only 4 leads to 2.
+    let entries = vec![0, NONE, 0, 1, 2, 1];
+    let partial = DataSet { pieces: 3, sizes: vec![6, 4], maps: vec![entries], supplied: vec![] };
+    plan.maps[0][2] = 0;
+    assert_eq!(first_words(&plan, &partial, 5), [0, 0, 0b100]);
+}
+
+/// A region with two maps into itself: node 1, supplied and disjoint, has its private part in nodes 2 to 6.
+fn private_part_of_supplied(step: [u8; 5]) -> Plan {
+    let nodes = [&EQUAL_AND_SUPPLIED[..], &private_part(1)].concat();
+    let steps = vec![[1, 0, 0, 0, 0], [3, 1, 0, 0, 0], [4, 1, 0, 0, 0], [5, 1, 1, 0, 0], step];
+    Plan { maps: vec![[0, 0, 0]; 2], supplied: vec![[0, 3]], ..one_region(nodes, steps) }
+}
+
+/// Nodes that are not what lemma 21 wants in their places.
+const NOT_OF_A_PRIVATE_PART: [(usize, [u8; 4]); 21] = [
+    // F: its kind, operand and map.
+    (2, [node::PREIMAGE, 1, 0, 0]),
+    (2, [node::UNION, 1, 0, 0]),
+    (2, [node::IMAGE, 0, 0, 0]),
+    (2, [node::IMAGE, 1, 1, 0]),
+    // G: likewise.
+    (3, [node::IMAGE, 2, 0, 0]),
+    (3, [node::PREIMAGE, 0, 0, 0]),
+    (3, [node::PREIMAGE, 1, 0, 0]),
+    (3, [node::PREIMAGE, 2, 1, 0]),
+    // G minus P: its kind, each operand, and their order.
+    (4, [node::UNION, 3, 1, 0]),
+    (4, [node::INTERSECTION, 3, 1, 0]),
+    (4, [node::DIFFERENCE, 2, 1, 0]),
+    (4, [node::DIFFERENCE, 3, 0, 0]),
+    (4, [node::DIFFERENCE, 1, 3, 0]),
+    // The image of that: its kind, operand and map.
+    (5, [node::PREIMAGE, 4, 0, 0]),
+    (5, [node::IMAGE, 3, 0, 0]),
+    (5, [node::IMAGE, 4, 1, 0]),
+    // F minus that image: its kind, each operand, and their order.
+    (6, [node::UNION, 2, 5, 0]),
+    (6, [node::INTERSECTION, 2, 5, 0]),
+    (6, [node::DIFFERENCE, 3, 5, 0]),
+    (6, [node::DIFFERENCE, 2, 4, 0]),
+    (6, [node::DIFFERENCE, 5, 2, 0]),
+];
+
+#[test]
+fn a_private_part_must_be_built_just_so() {
+    let right = private_part_of_supplied([21, 6, 0, 1, 0]);
+    gives(&right.encode(), Answer::Accepted { symbols: 0, nodes: 7, steps: 5 });
+    for (number, record) in NOT_OF_A_PRIVATE_PART {
+        let mut plan = right.clone();
+        plan.nodes[number] = record;
+        gives(&plan.encode(), Refusal::UnlicensedStep(4).into());
+    }
+    // x is a node that it is built of, or p is about another node or of another form.
+    let parts = (0..6).map(|x| [21, x, 0, 1, 0]);
+    let premises = [0, 2, 3].map(|p| [21, 6, 0, p, 0]);
+    for step in parts.chain(premises) {
+        gives(&private_part_of_supplied(step).encode(), Refusal::UnlicensedStep(4).into());
+    }
+}
+
+#[test]
+fn lemma_21_is_the_last_and_uses_neither_y_nor_q() {
+    let invalid = [
+        [0, 6, 0, 1, 0],
+        [22, 6, 0, 1, 0],
+        [21, 7, 0, 1, 0],
+        [21, 6, 1, 1, 0],
+        [21, 6, 0, 4, 0],
+        [21, 6, 0, 1, 1],
+    ];
+    for step in invalid {
+        gives(&private_part_of_supplied(step).encode(), Refusal::InvalidRecord(7 * 256 + 4).into());
+    }
 }
 
 #[test]

@@ -2,12 +2,12 @@
 //! run must reach every corner of the format and notice every flaw.
 #![forbid(unsafe_code)]
 
-use std::collections::BTreeMap;
 use std::sync::OnceLock;
 
 use mavisglen::{Answer, Refusal};
 use mavisglen_testing::encode::{node, Plan};
-use mavisglen_testing::generate::lemma::{only_broken, requirement_count, LEMMAS};
+use mavisglen_testing::generate::builder::{form, Form};
+use mavisglen_testing::generate::lemma::{only_broken, uses, Miss, LEMMAS};
 use mavisglen_testing::generate::{Case, Generator, Origin};
 use mavisglen_testing::reference::flaw::{Flaw, Limit};
 use mavisglen_testing::reference::{self, Reference};
@@ -100,18 +100,19 @@ fn conflicting_plans_are_refused_for_their_loop() {
     }
 }
 
-/// How many cases of the run a flawed copy checks otherwise.
-fn checked_otherwise(flaw: Flaw) -> usize {
+/// The cases of the run that a flawed copy checks otherwise.
+fn checked_otherwise(flaw: Flaw) -> impl Iterator<Item = usize> {
     let flawed = Reference::flawed(flaw);
-    run().iter().filter(|judged| flawed.check(&judged.case.plan) != judged.checked).count()
+    (0..CASES).filter(move |&case| flawed.check(&run()[case].case.plan) != run()[case].checked)
 }
 
+/// The rules with most to overlook: that of loops, and lemma 21.
 #[test]
-fn flaws_of_the_parallelizable_rule_are_noticed_often() {
-    for flaw in Flaw::PARALLELIZABLE {
-        let count = checked_otherwise(flaw);
-        println!("{flaw:?}: {count}");
-        assert!(count >= OFTEN, "{flaw:?} is noticed too seldom: {count}");
+fn flaws_of_the_longest_rules_are_noticed_often() {
+    for flaw in [&Flaw::PARALLELIZABLE[..], &Flaw::PRIVATE_PART].concat() {
+        let often = checked_otherwise(flaw).nth(OFTEN - 1);
+        println!("{flaw:?}: {OFTEN} times by case {often:?}");
+        assert!(often.is_some(), "{flaw:?} is noticed too seldom");
     }
 }
 
@@ -131,6 +132,23 @@ fn every_lemma_is_used_often_in_accepted_plans() {
     println!("{lemmas:?}");
     for lemma in 1..=LEMMAS {
         assert!(lemmas.get(&lemma) >= Some(&OFTEN), "lemma {lemma} is used too seldom: {lemmas:?}");
+    }
+}
+
+#[test]
+fn disjointness_by_every_lemma_is_used_often_by_every_other() {
+    let premises = |plan: Plan| {
+        let premise = |&[lemma, _, _, p, _]: &[u8; 5]| (lemma, plan.steps[usize::from(p)][0]);
+        plan.steps.iter().map(premise).collect::<Vec<_>>()
+    };
+    let counts = tally(accepted_plans().flat_map(premises));
+    let disjoint: Vec<u8> = (1..=LEMMAS).filter(|&lemma| form(lemma) == Form::Disjoint).collect();
+    for &lemma in disjoint.iter().filter(|&&lemma| uses(lemma)[1]) {
+        for &premise in &disjoint {
+            let count = counts.get(&(lemma, premise));
+            println!("{lemma} by {premise}: {count:?}");
+            assert!(count >= Some(&OFTEN), "{lemma} by {premise} is too seldom: {count:?}");
+        }
     }
 }
 
@@ -170,26 +188,32 @@ fn every_operator_is_evaluated_often() {
     }
 }
 
-#[test]
-fn every_requirement_of_every_lemma_is_broken_alone() {
-    let mut counts = BTreeMap::new();
-    for judged in run() {
-        let Origin::Lemma { lemma, requirement } = judged.case.origin else { continue };
+/// Every near miss of a lemma in the run, with its plan but for the last step, and that step.
+fn near_misses() -> impl Iterator<Item = (Miss, Plan, [u8; 5])> {
+    run().iter().filter_map(|judged| {
+        let Origin::Lemma(miss) = judged.case.origin else { return None };
         let mut plan = Plan::decode(&judged.case.plan).expect("a near miss is well framed");
         let last = plan.steps.pop().expect("a near miss has its step");
         assert_eq!(judged.checked, Answer::Refused(Refusal::UnlicensedStep(plan.steps.len() as u64)));
-        assert_eq!((last[0], only_broken(&plan, last)), (lemma, Some(requirement)));
-        assert!(reference::check(&plan.encode()).is_accepted(), "without that step it is accepted");
-        *counts.entry((lemma, requirement)).or_insert(0) += 1;
-    }
-    println!("{counts:?}");
-    for lemma in 1..=LEMMAS {
-        for requirement in 0..requirement_count(lemma) {
-            assert!(
-                counts.get(&(lemma, requirement)) >= Some(&OFTEN),
-                "lemma {lemma}, requirement {requirement}"
-            );
+        Some((miss, plan, last))
+    })
+}
+
+#[test]
+fn every_requirement_of_every_lemma_is_broken_alone() {
+    for (miss, plan, last) in near_misses() {
+        match miss {
+            Miss::Requirement { lemma, number } => {
+                assert_eq!((last[0], only_broken(&plan, last)), (lemma, Some(number)));
+            }
+            Miss::PrivatePart(_) => assert_eq!(last[0], 21),
         }
+        assert!(reference::check(&plan.encode()).is_accepted(), "without that step it is accepted");
+    }
+    let counts = tally(near_misses().map(|(miss, ..)| miss));
+    println!("{counts:?}");
+    for miss in Miss::all() {
+        assert!(counts.get(&miss) >= Some(&OFTEN), "{miss:?} is too seldom");
     }
 }
 

@@ -15,7 +15,7 @@ pub enum Form {
 /// The form that a lemma concludes.
 pub fn form(lemma: u8) -> Form {
     match lemma {
-        1 | 3 | 15..=18 => Form::Disjoint,
+        1 | 3 | 15..=18 | 21 => Form::Disjoint,
         2 | 4 | 19 | 20 => Form::Complete,
         _ => Form::Contained,
     }
@@ -81,8 +81,29 @@ impl<'r> Builder<'r> {
         Some(self.plan.steps.len() as u8 - 1)
     }
 
+    /// How many nodes and steps there are, to come back to.
+    pub fn mark(&self) -> [usize; 2] {
+        [self.plan.nodes.len(), self.plan.steps.len()]
+    }
+
+    /// Takes back the nodes and steps added since the mark.
+    pub fn return_to(&mut self, [nodes, steps]: [usize; 2]) {
+        self.plan.nodes.truncate(nodes);
+        self.regions.truncate(nodes);
+        self.plan.steps.truncate(steps);
+    }
+
     pub fn record(&self, node: u8) -> [u8; 4] {
         self.plan.nodes[usize::from(node)]
+    }
+
+    /// The nodes that a node is directly built of.
+    pub fn operands(&self, node: u8) -> Vec<u8> {
+        match self.record(node) {
+            [node::SUPPLIED | node::EQUAL, ..] => vec![],
+            [node::IMAGE | node::PREIMAGE, of, ..] => vec![of],
+            [_, a, b, _] => vec![a, b],
+        }
     }
 
     pub fn region(&self, node: u8) -> u8 {

@@ -1,7 +1,8 @@
 //! Cases: a plan, a data set and the length of the slice lent for it.
 #![forbid(unsafe_code)]
 
-use super::{conflict, data, lemma, limits, miss, program};
+use super::lemma::Miss;
+use super::{conflict, data, limits, miss, program};
 use crate::encode::{Plan, PIECE_WORDS};
 use crate::random::Random;
 use crate::reference::flaw::Limit;
@@ -11,8 +12,8 @@ use crate::reference::flaw::Limit;
 pub enum Origin {
     /// An accepted plan.
     Accepted,
-    /// A step that breaks just one requirement of its lemma.
-    Lemma { lemma: u8, requirement: usize },
+    /// An accepted plan with one more step, which is nearly by its lemma.
+    Lemma(Miss),
     /// An accepted plan with a record changed.
     Altered,
     /// A plan that may lack image nodes or steps it needs.
@@ -44,21 +45,15 @@ pub struct Case {
 #[derive(Clone, Debug)]
 pub struct Generator {
     random: Random,
-    /// Every requirement of every lemma, taken in turn.
-    requirements: Vec<(u8, usize)>,
-    next_requirement: usize,
+    /// Every near miss of a lemma, taken in turn.
+    misses: Vec<Miss>,
+    next_miss: usize,
     next_limit: usize,
 }
 
 impl Generator {
     pub fn new(seed: u64) -> Generator {
-        let all = |lemma| (0..lemma::requirement_count(lemma)).map(move |requirement| (lemma, requirement));
-        Generator {
-            random: Random::new(seed),
-            requirements: (1..=lemma::LEMMAS).flat_map(all).collect(),
-            next_requirement: 0,
-            next_limit: 0,
-        }
+        Generator { random: Random::new(seed), misses: Miss::all(), next_miss: 0, next_limit: 0 }
     }
 
     fn next_case(&mut self) -> Case {
@@ -93,11 +88,11 @@ impl Generator {
     }
 
     fn lemma_near_miss(&mut self) -> Case {
-        let (lemma, requirement) = self.requirements[self.next_requirement];
-        self.next_requirement = (self.next_requirement + 1) % self.requirements.len();
+        let miss = self.misses[self.next_miss];
+        self.next_miss = (self.next_miss + 1) % self.misses.len();
         loop {
-            if let Some(plan) = miss::lemma_near_miss(&mut self.random, lemma, requirement) {
-                return self.with_some_data(Origin::Lemma { lemma, requirement }, &plan);
+            if let Some(plan) = miss::lemma_near_miss(&mut self.random, miss) {
+                return self.with_some_data(Origin::Lemma(miss), &plan);
             }
         }
     }

@@ -135,7 +135,7 @@ impl Builder<'_> {
 
     /// A disjoint node of a region.
     pub fn disjoint(&mut self, region: u8, depth: usize) -> Option<Proved> {
-        let lemma = if depth == 0 { 1 } else { self.random.pick(&[1, 3, 15, 16, 17, 18]) };
+        let lemma = if depth == 0 { 1 } else { self.random.pick(&[1, 3, 15, 16, 17, 18, 21]) };
         self.disjoint_by(lemma, region, depth.saturating_sub(1)).or_else(|| self.disjoint_by(1, region, 0))
     }
 
@@ -162,12 +162,23 @@ impl Builder<'_> {
             }
             18 => {
                 let map = self.map_from(region)?;
-                let (of, p) = self.disjoint(self.plan.maps[usize::from(map)][1], depth)?;
-                let x = self.node(node::PREIMAGE, of, map)?;
-                self.step(18, x, 0, p, 0).map(|step| (x, step))
+                self.disjoint_preimage(map, depth)
+            }
+            21 => {
+                let map = self.map_to(region)?;
+                let (of, p) = self.disjoint(self.plan.maps[usize::from(map)][0], depth)?;
+                let x = self.private_part(of, map)?.private;
+                self.step(21, x, 0, p, 0).map(|step| (x, step))
             }
             _ => None,
         }
+    }
+
+    /// Lemma 18: a preimage of a disjoint node under a map.
+    pub fn disjoint_preimage(&mut self, map: u8, depth: usize) -> Option<Proved> {
+        let (of, p) = self.disjoint(self.plan.maps[usize::from(map)][1], depth)?;
+        let x = self.node(node::PREIMAGE, of, map)?;
+        self.step(18, x, 0, p, 0).map(|step| (x, step))
     }
 
     /// Some x with a step for "x is contained in y".

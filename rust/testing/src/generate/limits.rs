@@ -4,6 +4,7 @@
 
 use super::builder::Builder;
 use super::data;
+use super::lemma::some_lemma;
 use super::loops::Loop;
 use super::program::{skeleton, with_loops, Omission, Shape};
 use crate::encode::{limit, node, statement, DataSet, Plan};
@@ -154,7 +155,7 @@ fn with_steps(random: &mut Random, count: usize) -> Option<Plan> {
         builder.assign(current, 2, Omission::Nothing)?;
     }
     for _ in 0..40 * count {
-        let lemma = builder.random.within(1..=20) as u8;
+        let lemma = some_lemma(builder.random);
         builder.instance(lemma, 2);
     }
     // Steps may repeat.

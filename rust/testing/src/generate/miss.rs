@@ -3,27 +3,27 @@
 
 use super::builder::Builder;
 use super::conflict::conflicting_plan;
-use super::lemma::{requirement_count, LEMMAS};
+use super::lemma::{Miss, LEMMAS};
 use super::program::{accepted_plan, incomplete_plan};
 use crate::encode::{limit, node, statement, Plan};
 use crate::random::Random;
 
-/// A small plan and one more step that breaks one requirement of a lemma.
-pub fn lemma_near_miss(random: &mut Random, lemma: u8, requirement: usize) -> Option<Plan> {
+/// A small plan and one more step, which is nearly by its lemma.
+pub fn lemma_near_miss(random: &mut Random, miss: Miss) -> Option<Plan> {
     let plan = accepted_plan(random);
     if plan.nodes.len() > 24 || plan.steps.len() > 60 {
         return None;
     }
     let mut builder = resume(random, plan);
-    builder.near_miss(lemma, requirement)?;
+    builder.near_miss(miss)?;
     Some(builder.plan)
 }
 
 fn some_lemma_near_miss(random: &mut Random) -> Plan {
+    let misses = Miss::all();
     loop {
-        let lemma = random.within(1..=usize::from(LEMMAS)) as u8;
-        let requirement = random.below(requirement_count(lemma));
-        if let Some(plan) = lemma_near_miss(random, lemma, requirement) {
+        let miss = random.pick(&misses);
+        if let Some(plan) = lemma_near_miss(random, miss) {
             return plan;
         }
     }
@@ -74,7 +74,8 @@ pub fn compound_plan(random: &mut Random) -> Plan {
         alter(random, &mut plan);
     }
     if random.one_in(3) {
-        plan.steps.push([random.below(22) as u8, 255, 0, 0, 0]);
+        let lemma = random.within(0..=usize::from(LEMMAS) + 1) as u8;
+        plan.steps.push([lemma, 255, 0, 0, 0]);
     }
     plan
 }
@@ -199,7 +200,7 @@ fn alter_byte(random: &mut Random, plan: &mut Plan) {
 
 /// First values that some byte does not admit.
 fn limit_values(random: &mut Random) -> usize {
-    random.pick(&[2, 4, 7, 9, 16, 21])
+    random.pick(&[2, 4, 7, 9, 16, usize::from(LEMMAS) + 1])
 }
 
 /// The bytes of an accepted plan, damaged anywhere.

@@ -3,6 +3,7 @@
 #![forbid(unsafe_code)]
 
 use super::builder::Builder;
+use super::lemma::some_lemma;
 use super::loops::{Loop, Origin};
 use crate::encode::{limit, node, Plan};
 use crate::random::Random;
@@ -90,7 +91,7 @@ impl Builder<'_> {
             self.some_node(region, shape.depth.max(1));
         }
         for _ in 0..shape.spare_steps {
-            let lemma = self.random.within(1..=20) as u8;
+            let lemma = some_lemma(self.random);
             self.instance(lemma, shape.depth);
         }
     }

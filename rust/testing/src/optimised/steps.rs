@@ -37,7 +37,7 @@ const P: u8 = 2;
 const Q: u8 = 4;
 
 /// What each lemma, from 1, uses beside x.
-const USES: [u8; 20] = [
+const USES: [u8; 21] = [
     0,
     0,
     0,
@@ -57,6 +57,7 @@ const USES: [u8; 20] = [
     P,
     P,
     Y | P | Q,
+    P,
     P,
 ];
 
@@ -105,16 +106,17 @@ fn conclude(plan: &Plan, facts: &Facts, [lemma, x, y, p, q]: [u8; 5]) -> Option<
         11 => x_kind == node::DIFFERENCE && y == xa,
         12 => x_kind == node::IMAGE && y_kind == node::IMAGE && xb == yb && p == contained(xa, ya),
         13 => x_kind == node::PREIMAGE && y_kind == node::PREIMAGE && xb == yb && p == contained(xa, ya),
-        14 => x_kind == node::IMAGE && p >> 8 == u32::from(xa) && is_preimage(plan, p as u8, y, xb),
+        14 => x_kind == node::IMAGE && p >> 8 == u32::from(xa) && is(plan, p as u8, [node::PREIMAGE, y, xb]),
         15 => p == disjoint(y) && q == contained(x, y),
         16 => x_kind == node::INTERSECTION && (p == disjoint(xa) || p == disjoint(xb)),
         17 => x_kind == node::DIFFERENCE && p == disjoint(xa),
         18 => x_kind == node::PREIMAGE && p == disjoint(xa),
         19 => p == complete(y) && q == contained(y, x),
-        _ => x_kind == node::PREIMAGE && plan.maps[usize::from(xb)][2] == 1 && p == complete(xa),
+        20 => x_kind == node::PREIMAGE && plan.maps[usize::from(xb)][2] == 1 && p == complete(xa),
+        _ => x_kind == node::DIFFERENCE && p == disjoint(p as u8) && is_private_part(plan, xa, xb, p as u8),
     };
     let fact = match lemma {
-        1 | 3 | 15..=18 => disjoint(x),
+        1 | 3 | 15..=18 | 21 => disjoint(x),
         2 | 4 | 19 | 20 => complete(x),
         _ => contained(x, y),
     };
@@ -122,6 +124,18 @@ fn conclude(plan: &Plan, facts: &Facts, [lemma, x, y, p, q]: [u8; 5]) -> Option<
 }
 
 #[inline]
-fn is_preimage(plan: &Plan, number: u8, of: u8, map: u8) -> bool {
-    plan.nodes[usize::from(number)] == [node::PREIMAGE, of, map, 0]
+fn is(plan: &Plan, number: u8, [kind, a, b]: [u8; 3]) -> bool {
+    plan.nodes[usize::from(number)] == [kind, a, b, 0]
+}
+
+/// Whether an image without what is shared is the private part by a disjoint node. Kept out of the way of the other
+/// lemmas, which are slower with this among them.
+#[cold]
+fn is_private_part(plan: &Plan, image: u8, shared: u8, of: u8) -> bool {
+    let [shared_kind, others, map, _] = plan.nodes[usize::from(shared)];
+    if shared_kind != node::IMAGE || !is(plan, image, [node::IMAGE, of, map]) {
+        return false;
+    }
+    let [others_kind, sources, outside, _] = plan.nodes[usize::from(others)];
+    others_kind == node::DIFFERENCE && outside == of && is(plan, sources, [node::PREIMAGE, image, map])
 }

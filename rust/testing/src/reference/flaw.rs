@@ -52,6 +52,30 @@ impl Limit {
     }
 }
 
+/// A node of lemma 21's F minus the image under f of (G minus P).
+#[derive(Clone, Copy, Debug, PartialEq, Eq)]
+pub enum Part {
+    /// F, the image of P.
+    Image,
+    /// G, all that leads into F.
+    Sources,
+    /// G minus P.
+    Others,
+    /// The image of G minus P.
+    Shared,
+    /// The whole of it.
+    Private,
+}
+
+/// Something about a node: its kind, its operands or its map, or the order of its operands.
+#[derive(Clone, Copy, Debug, PartialEq, Eq)]
+pub enum Aspect {
+    Kind,
+    First,
+    Second,
+    Order,
+}
+
 /// One rule of the reference broken.
 #[derive(Clone, Copy, Debug, PartialEq, Eq)]
 pub enum Flaw {
@@ -122,6 +146,12 @@ pub enum Flaw {
     DisjointImage,
     DisjointDifferenceByRightOperand,
     CompletePreimageUnderPartialMap,
+
+    // Lemma 21: something about a node not looked at, or another node taken for it.
+    PrivatePart(Part, Aspect),
+    PrivateIsTheImage,
+    PrivateByDisjoint(Part),
+    PrivateUnderTotalMapOnly,
 
     // Needs.
     CompletenessNotNeeded,
@@ -249,11 +279,38 @@ impl Flaw {
         Flaw::LoopsJudgedTogether,
     ];
 
+    /// Flaws in lemma 21.
+    pub const PRIVATE_PART: [Flaw; 22] = [
+        Flaw::IgnoresP(21),
+        Flaw::PrivatePart(Part::Image, Aspect::Kind),
+        Flaw::PrivatePart(Part::Image, Aspect::First),
+        Flaw::PrivatePart(Part::Image, Aspect::Second),
+        Flaw::PrivatePart(Part::Sources, Aspect::Kind),
+        Flaw::PrivatePart(Part::Sources, Aspect::First),
+        Flaw::PrivatePart(Part::Sources, Aspect::Second),
+        Flaw::PrivatePart(Part::Others, Aspect::Kind),
+        Flaw::PrivatePart(Part::Others, Aspect::First),
+        Flaw::PrivatePart(Part::Others, Aspect::Second),
+        Flaw::PrivatePart(Part::Others, Aspect::Order),
+        Flaw::PrivatePart(Part::Shared, Aspect::Kind),
+        Flaw::PrivatePart(Part::Shared, Aspect::First),
+        Flaw::PrivatePart(Part::Shared, Aspect::Second),
+        Flaw::PrivatePart(Part::Private, Aspect::Kind),
+        Flaw::PrivatePart(Part::Private, Aspect::First),
+        Flaw::PrivatePart(Part::Private, Aspect::Second),
+        Flaw::PrivatePart(Part::Private, Aspect::Order),
+        Flaw::PrivateIsTheImage,
+        Flaw::PrivateByDisjoint(Part::Image),
+        Flaw::PrivateByDisjoint(Part::Others),
+        Flaw::PrivateUnderTotalMapOnly,
+    ];
+
     /// Every flaw in checking and evaluating.
     pub fn all() -> Vec<Flaw> {
-        let mut flaws = [&Flaw::PARALLELIZABLE[..], &OTHERS].concat();
+        let mut flaws = [&Flaw::PARALLELIZABLE[..], &Flaw::PRIVATE_PART, &OTHERS].concat();
         flaws.extend(Limit::ALL.map(Flaw::Lower));
         flaws.extend(Limit::ALL.map(Flaw::Higher));
+        // That of lemma 21 is among its own.
         flaws.extend([6, 8, 10, 12, 13, 14, 15, 16, 17, 18, 19, 20].map(Flaw::IgnoresP));
         flaws.extend([6, 8, 10, 15, 19].map(Flaw::IgnoresQ));
         flaws

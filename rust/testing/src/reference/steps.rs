@@ -36,8 +36,8 @@ const fn lemma(conclusion: Conclusion, y: usize, p: usize, q: usize) -> Lemma {
     Lemma { conclusion, uses: [y == 1, p == 1, q == 1] }
 }
 
-/// The 20 lemmas, from 1; the columns are y, p, q.
-const LEMMAS: [Lemma; 20] = [
+/// The 21 lemmas, from 1; the columns are y, p, q.
+const LEMMAS: [Lemma; 21] = [
     lemma(Conclusion::Disjoint, 0, 0, 0),
     lemma(Conclusion::Complete, 0, 0, 0),
     lemma(Conclusion::Disjoint, 0, 0, 0),
@@ -58,6 +58,7 @@ const LEMMAS: [Lemma; 20] = [
     lemma(Conclusion::Disjoint, 0, 1, 0),
     lemma(Conclusion::Complete, 1, 1, 1),
     lemma(Conclusion::Complete, 0, 1, 0),
+    lemma(Conclusion::Disjoint, 0, 1, 0),
 ];
 
 impl Reference {
@@ -165,6 +166,9 @@ impl Reference {
             (20, Preimage { of, map }, _) => {
                 (plan.maps[map].total || self.has(Flaw::CompletePreimageUnderPartialMap)) && p(Complete(of))
             }
+            // 21: x is the private part of the image of a disjoint node.
+            (21, Image { of, .. }, _) if self.has(Flaw::PrivateIsTheImage) => p(Disjoint(of)),
+            (21, _, _) => self.is_private_part(plan, x, p),
             _ => false,
         }
     }

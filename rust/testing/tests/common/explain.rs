@@ -2,7 +2,7 @@
 #![forbid(unsafe_code)]
 
 use mavisglen::{Written, LONGEST_CHAIN};
-use mavisglen_testing::filed::{data_d, plan_a, plan_b};
+use mavisglen_testing::filed::{data_d, plans};
 use mavisglen_testing::generate::{Explained, Inquiries, Inquiry, Request};
 use mavisglen_testing::question::Question;
 use mavisglen_testing::reference::Reference;
@@ -60,7 +60,7 @@ impl Compared {
     pub fn explains_the_filed_examples_alike(&self) {
         let with_greatest = |end: usize| (0..end).chain([usize::MAX]);
         let lengths = || (0..25).map(|number| [number / 5, number % 5]);
-        for plan in [plan_a(), plan_b()] {
+        for plan in plans() {
             let inquiry = Inquiry::of(plan.encode(), data_d().encode());
             for node in with_greatest(plan.nodes.len() + 1) {
                 for piece in with_greatest(3) {
@@ -98,7 +98,7 @@ impl Compared {
         length
     }
 
-    /// A member, and a node that is not there.
+    /// A member, and something of a node that not every plan has.
     pub(super) fn explains_altered_alike(&self, plan: &[u8], data: &[u8]) {
         let inquiry = Inquiry::of(plan.to_vec(), data.to_vec());
         for node in [1, 3] {

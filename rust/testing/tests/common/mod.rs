@@ -7,7 +7,7 @@ use std::env;
 
 use mavisglen::{Answer, Refusal};
 use mavisglen_testing::encode::{limit, statement, Plan};
-use mavisglen_testing::filed::{data_d, plan_a, plan_b};
+use mavisglen_testing::filed::{data_d, plans};
 use mavisglen_testing::generate::{Case, Generator};
 use mavisglen_testing::meaning::Meaning;
 use mavisglen_testing::reference;
@@ -77,8 +77,8 @@ impl Compared {
 
     /// Every value of every byte, and every length, of the filed examples.
     pub fn agrees_around_the_filed_examples(&self) {
-        let (data, words) = (data_d().encode(), [!0; 50]);
-        for plan in [plan_a().encode(), plan_b().encode()] {
+        let (data, words) = (data_d().encode(), [!0; 100]);
+        for plan in plans().map(|plan| plan.encode()) {
             for altered in altered_once(&plan) {
                 self.compare(&altered, &data, &words).must_agree(|| "altered plan".into(), &altered, &data);
                 self.explains_altered_alike(&altered, &data);

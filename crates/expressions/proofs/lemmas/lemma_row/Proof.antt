@@ -17,7 +17,7 @@ returns c = ap (λ (k : ℕ). getD lemmas k (row Subset false false false false)
 returns-2 : tie.Need-returns-2
 unfolding lemmaRow lemmas
 returns-2 c =
-    let past : 20 ≤ c .before .before .args .lemma - 1 = omega arith in
+    let past : 21 ≤ c .before .before .args .lemma - 1 = omega arith in
     sym (List·getD-eq-default lemmas (row Subset false false false false) past)
 
 pub lemma-row-spec : {M : Type 1} → statement M

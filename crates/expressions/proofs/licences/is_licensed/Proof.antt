@@ -23,16 +23,22 @@ returns-4 c P is premises from to = c .disjoint-licensed .ensures P (is .nodes-a
 
 returns-5 : tie.Need-returns-5
 returns-5 c P is premises from to =
-    c .complete-licensed .ensures P (is .maps-are) (is .nodes-are) premises
-    ∙ in-group P _ 19 2 (⊎-elim (λ w. omega arith) (λ w. omega arith) (c .before .if1 .came)) (omega arith)
+    c .complete-licensed .ensures P (is .maps-are) (is .nodes-are) premises ∙ in-group P _ 19 2 (omega arith) (omega arith)
+
+returns-6 : tie.Need-returns-6
+returns-6 c P is premises from to =
+    c .private-licensed .ensures P (is .nodes-are) premises
+    ∙ in-group P _ 21 1 (⊎-elim (λ w. omega arith) (λ w. omega arith) (c .before .if1 .came)) (omega arith)
 
 pub is-licensed-spec : {M : Type 1} → statement M
 is-licensed-spec =
     tie.close
     (tie.spec
     (λ c κs. search needs) (λ c κs. search needs) (λ c κs. search needs) (λ c κs. search needs) (λ c κs. search needs)
+    (λ c κs. search needs)
     returns
     returns-2
     returns-3
     returns-4
-    returns-5)
+    returns-5
+    returns-6)
