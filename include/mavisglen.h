@@ -1,5 +1,6 @@
-/* Partition plans: checking, evaluating over a data set, and explaining why an element is in a piece. docs/FORMAT.md
- * has the byte formats, the words, the chains and the table of refusals. Link with libmavisglen.a (x86-64).
+/* Partition plans: checking, evaluating over a data set, explaining why an element is in a piece, and charging for what
+ * is accessed and not owned. docs/FORMAT.md has the byte formats, the words, the chains, the charges and the table of
+ * refusals. Link with libmavisglen.a (x86-64).
  *
  * The functions keep no state and allocate nothing. Threads may call them at the same time, each with memory of its own
  * to write into.
@@ -22,6 +23,9 @@ extern "C" {
 /* As many pairs as any chain has: one of each of 48 nodes. */
 #define MAVISGLEN_LONGEST_CHAIN 48
 
+/* The highest price that is charged, in cents per thousand elements. */
+#define MAVISGLEN_HIGHEST_PRICE 1000000
+
 /* The number of an answer: 0, or a refusal's. Behind the meaning of each refusal stands what its place is; the first in
  * the order of docs/FORMAT.md is given. */
 enum mavisglen_answer_number {
@@ -43,8 +47,10 @@ enum mavisglen_answer_number {
                                          its number */
     MAVISGLEN_OUTPUT_TOO_SMALL = 15,  /* fewer words are lent than nodes * pieces * 8: that product;
                                          or fewer places than the chain's length: that length */
-    MAVISGLEN_NOT_FOUND = 16          /* the node (1), the piece (2) or the element (3) does not exist, or the element
+    MAVISGLEN_NOT_FOUND = 16,         /* the node (1), the piece (2) or the element (3) does not exist, or the element
                                          is not in the piece (4): the lowest of these */
+    MAVISGLEN_INVALID_CHARGE = 17     /* a node does not exist (1), the two differ in region (2), or the price is above
+                                         the highest (3): the lowest of these */
 };
 
 /* Checks a plan: an acceptance, or a refusal of the plan (1 to 11).
@@ -73,6 +79,16 @@ uint64_t mavisglen_explain(const uint8_t *plan, size_t plan_len, const uint8_t *
                            size_t piece, size_t element, uint16_t *nodes, size_t nodes_len, uint16_t *elements,
                            size_t elements_len);
 
+/* Charges for what is accessed and not owned, at a price in cents per thousand elements: the number of elements, over
+ * all pieces, that a piece of the accessed node has and the same piece of the owned node lacks, and what they cost, in
+ * whole cents and the remainder; or a refusal of the plan (1 to 11), of the data set (12 to 14) or of what is charged
+ * for (17). Any nodes and any price may be asked for.
+ * Asks: plan_len bytes can be read at plan and data_len at data, which may overlap each other; a pointer may be null
+ * where its length is 0.
+ * Writes: nothing. */
+uint64_t mavisglen_charge(const uint8_t *plan, size_t plan_len, const uint8_t *data, size_t data_len, size_t accessed,
+                          size_t owned, uint64_t price);
+
 /* Every answer is a number in the low 8 bits, and above them the value that goes with it. */
 
 static inline unsigned mavisglen_number(uint64_t answer)
@@ -96,10 +112,11 @@ static inline uint64_t mavisglen_place(uint64_t answer)
     return mavisglen_accepted(answer) ? 0 : mavisglen_value(answer);
 }
 
-/* What stands in the 8 bits of an acceptance's value from this one on; 0 for a refusal. */
-static inline unsigned mavisglen_count_from(uint64_t answer, unsigned bit)
+/* What stands in so many bits of an acceptance's value, from this one on; 0 for a refusal. */
+static inline uint32_t mavisglen_part(uint64_t answer, unsigned from, unsigned bits)
 {
-    return mavisglen_accepted(answer) ? (unsigned)((mavisglen_value(answer) >> bit) & 0xFF) : 0;
+    uint64_t mask = ((uint64_t)1 << bits) - 1;
+    return mavisglen_accepted(answer) ? (uint32_t)((mavisglen_value(answer) >> from) & mask) : 0;
 }
 
 /* The length of what was written, of an explanation; 0 for a refusal. */
@@ -112,17 +129,34 @@ static inline uint64_t mavisglen_length(uint64_t answer)
 
 static inline unsigned mavisglen_symbols(uint64_t answer)
 {
-    return mavisglen_count_from(answer, 0);
+    return mavisglen_part(answer, 0, 8);
 }
 
 static inline unsigned mavisglen_nodes(uint64_t answer)
 {
-    return mavisglen_count_from(answer, 8);
+    return mavisglen_part(answer, 8, 8);
 }
 
 static inline unsigned mavisglen_steps(uint64_t answer)
 {
-    return mavisglen_count_from(answer, 16);
+    return mavisglen_part(answer, 16, 8);
+}
+
+/* A charge; 0 for a refusal. Count times price is 1,000 times the cents, and the remainder, which is below 1,000. */
+
+static inline uint32_t mavisglen_count(uint64_t answer)
+{
+    return mavisglen_part(answer, 0, 16);
+}
+
+static inline uint32_t mavisglen_cents(uint64_t answer)
+{
+    return mavisglen_part(answer, 16, 24);
+}
+
+static inline uint32_t mavisglen_remainder(uint64_t answer)
+{
+    return mavisglen_part(answer, 40, 16);
 }
 
 #ifdef __cplusplus

@@ -1,11 +1,13 @@
 // What an answer reports, as numbers.
 use model::Answer;
+use model::Charge;
+use model::ChargeReport;
 use model::Refusal;
 use model::Report;
 use model::Written;
 use model::WrittenReport;
 ghost use mathlib.Core.Path.{_≡_};
-ghost use Rattle.model.specs.Answers.{report, refusalReport, writtenReport};
+ghost use Rattle.model.specs.Answers.{report, refusalReport, writtenReport, chargeReport};
 
 // What an answer reports: on refusal "counts 0".
 pub fn report_answer(answer: Answer) -> Report
@@ -51,6 +53,32 @@ pub fn report_written(answer: Written) -> WrittenReport
     }
 }
 
+// What a charge reports: on refusal count, cents and remainder 0.
+pub fn report_charge(answer: Charge) -> ChargeReport
+    ensures { λ r. ⌜ r ≡ chargeReport answer ⌝ }
+{
+    match answer {
+        Charge::Charged {
+            count,
+            cents,
+            remainder,
+        } => ChargeReport {
+            number: 0,
+            place: 0,
+            count,
+            cents,
+            remainder,
+        },
+        Charge::Refused(refusal) => ChargeReport {
+            number: refusal_number(refusal),
+            place: refusal_place(refusal),
+            count: 0,
+            cents: 0,
+            remainder: 0,
+        },
+    }
+}
+
 // The table of refusals: column "no.".
 pub fn refusal_number(refusal: Refusal) -> usize
     ensures { λ r. ⌜ r ≡ refusalReport refusal .number ⌝ }
@@ -72,6 +100,7 @@ pub fn refusal_number(refusal: Refusal) -> usize
         Refusal::InvalidPartition(_) => 14,
         Refusal::OutputTooSmall(_) => 15,
         Refusal::NotFound(_) => 16,
+        Refusal::InvalidCharge(_) => 17,
     }
 }
 
@@ -96,5 +125,6 @@ pub fn refusal_place(refusal: Refusal) -> usize
         Refusal::InvalidPartition(partition) => partition,
         Refusal::OutputTooSmall(length) => length,
         Refusal::NotFound(what) => what,
+        Refusal::InvalidCharge(what) => what,
     }
 }

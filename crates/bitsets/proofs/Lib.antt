@@ -1,3 +1,4 @@
 pub mod ByteOrder
 pub mod Elements
+pub mod Ones
 pub mod Zeros

@@ -1,2 +1,3 @@
 // Sets of elements in words of 64 bits.
+pub mod counts;
 pub mod words;

@@ -21,7 +21,7 @@ use Rattle.model.specs.declared.Outcome.the-variants.{Pass, Refuse}
 use Rattle.model.proofs.Tests.{most, most!, fails, refuted}
 use Rattle.model.proofs.Outcomes.{then-assoc, passes-then, required, conclude-accepted, conclude-refused}
 use Rattle.model.proofs.EvaluationPromise.{evaluation-promise}
-use Rattle.model.proofs.JudgementPromise.{inputs-accepted, words-most}
+use Rattle.model.proofs.AcceptedInputs.{inputs-accepted, words-most}
 use Rattle.primitives.proofs.Stages.{stage-passed, stage-refused}
 use Rattle.plan.specs.declared.Reading.{Reading}
 use Rattle.plan.specs.Reading.{ReadPromise}

@@ -7,10 +7,7 @@ use model::Answer;
 use model::Outcome;
 use model::Refusal;
 use plan::read;
-ghost use mathlib.Core.Path.{_≡_};
-ghost use lib.ListN.{length};
-ghost use Rattle.model.specs.Evaluation.{MOST_WORDS};
-ghost use Rattle.model.specs.Promises.{EvaluationPromise, JudgementPromise};
+ghost use Rattle.model.specs.Promises.{EvaluationPromise};
 
 pub mod data;
 pub mod words;
@@ -44,12 +41,4 @@ pub fn evaluate(plan: &[u8], data: &[u8], words: &mut [u64]) -> Answer
         }
         Answer::Refused(refusal) => Answer::Refused(refusal),
     }
-}
-
-// Judges a plan and a data set, and evaluates into words enough for every plan, so that nothing else is refused.
-pub fn judge(plan: &[u8], data: &[u8], words: &mut [u64; 6144]) -> Answer
-    requires { ⌜ length (now words) ≡ MOST_WORDS ⌝ }
-    ensures { λ r. ⌜ JudgementPromise (now (plan .entry)) (now («data» .entry)) (now (words .entry)) (now (words .exit)) r ⌝ }
-{
-    evaluate(plan, data, words)
 }

@@ -9,6 +9,8 @@ use primitives::sections::SIZES;
 use primitives::sections::section_body;
 use subregions::Span;
 use subregions::fill::fill_nodes;
+use subregions::needed::ALL_NODES;
+use subregions::needed::needed_nodes;
 ghost use mathlib.Core.Path.{_≡_};
 ghost use Prim.Native.Nat.{_+_};
 ghost use lib.ListN.{length};
@@ -16,7 +18,7 @@ ghost use Rattle.model.specs.Layout.{planOf};
 ghost use Rattle.model.specs.DataSets.{dataOf};
 ghost use Rattle.model.specs.Evaluation.{filledWords};
 ghost use Rattle.subregions.specs.Fill.{spanFilled};
-ghost use Rattle.evaluate.specs.Words.{SpanReady, WordsReady, PieceReady, pieceFilled};
+ghost use Rattle.evaluate.specs.Words.{SpanReady, WordsReady, WantedReady, WantedFilled, PieceReady, pieceFilled};
 
 // Fills the words of a span of inputs that were accepted.
 fn fill_span(
@@ -60,6 +62,32 @@ pub fn fill_words(plan: &[u8], reading: Reading, data: &[u8], layout: DataLayout
     let pieces = piece_count(data);
     let span = Span {
         nodes: nodes.len() / 4,
+        needed: ALL_NODES,
+        pieces,
+        first: 0,
+        count: pieces,
+    };
+    fill_span(plan, reading, data, layout, span, words);
+}
+
+// Fills the words of the wanted nodes, bit j for node j, and of those that they are made of, among the first `nodes`.
+pub fn fill_wanted(
+    plan: &[u8],
+    reading: Reading,
+    data: &[u8],
+    layout: DataLayout,
+    nodes: usize,
+    wanted: u64,
+    words: &mut [u64],
+)
+    requires { ⌜ WantedReady (now plan) reading (now «data») layout nodes (length (now words)) ⌝ }
+    ensures { λ _. ⌜ WantedFilled (planOf (now (plan .entry))) (dataOf (now («data» .entry))) nodes wanted (length (now (words .entry))) (now (words .exit)) ⌝ }
+{
+    let records = section_body(plan, reading.frame, NODES);
+    let pieces = piece_count(data);
+    let span = Span {
+        nodes,
+        needed: needed_nodes(records, nodes, wanted),
         pieces,
         first: 0,
         count: pieces,
@@ -82,6 +110,7 @@ pub fn fill_piece(
 {
     let span = Span {
         nodes: node + 1,
+        needed: ALL_NODES,
         pieces: piece_count(data),
         first: piece,
         count: 1,

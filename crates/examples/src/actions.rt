@@ -1,9 +1,14 @@
 // What a case does with the plan and the data set that it has built.
+use crate::tokens::next_number;
 use answers::report_answer;
 use dataset::cells::piece_count;
 use evaluate::evaluate;
 use listing::print_answer;
+use listing::print_charge;
 use listing::print_node;
+use transfer::charge;
+ghost use Prim.Native.Nat.{_≤_};
+ghost use lib.ListN.{length};
 
 // Prints the name of a case.
 pub fn print_name(name: &[u8]) {
@@ -59,4 +64,15 @@ fn evaluate_into(plan: &[u8], data: &[u8], words: &mut [u64], lent: usize) {
 pub fn run_evaluate(plan: &[u8], data: &[u8], lent: usize) {
     let mut words = [18446744073709551615u64; 6144];
     evaluate_into(plan, data, &mut words, lent);
+}
+
+// Charges for the two nodes and the price that the rest of a line names, and prints the charge.
+pub fn run_charge(plan: &[u8], data: &[u8], line: &[u8], from: usize)
+    requires { ⌜ from ≤ length (now line) ⌝ }
+{
+    let accessed = next_number(line, from, 0);
+    let owned = next_number(line, accessed.to, 0);
+    let price = next_number(line, owned.to, 0);
+    let answer = charge(plan, data, accessed.value, owned.value, price.value as u64);
+    print_charge(answer);
 }

@@ -2,6 +2,7 @@
 use crate::actions::first_bytes;
 use crate::actions::print_name;
 use crate::actions::print_unknown;
+use crate::actions::run_charge;
 use crate::actions::run_check;
 use crate::actions::run_evaluate;
 use crate::building::Place;
@@ -26,6 +27,7 @@ pub enum Keyword {
     Check,
     Evaluate,
     Explain,
+    Charge,
     Item,
     Unknown,
 }
@@ -69,6 +71,9 @@ fn action_of(word: &[u8]) -> Keyword {
     }
     if same(word, b"explain") {
         return Keyword::Explain;
+    }
+    if same(word, b"charge") {
+        return Keyword::Charge;
     }
     if same(word, b"times") {
         return Keyword::Times;
@@ -244,6 +249,12 @@ fn run_action(
             first_bytes(plan, progress.plan.end),
             first_bytes(data, progress.data.end),
             read_request(line, from),
+        ),
+        Keyword::Charge => run_charge(
+            first_bytes(plan, progress.plan.end),
+            first_bytes(data, progress.data.end),
+            line,
+            from,
         ),
         _ => print_unknown(line),
     }

@@ -15,6 +15,7 @@
 //   explain N P E [A [B]]     explains why piece P of node N holds element E, with A places lent for nodes and B for elements,
 //                             48 and as many as A if left out, and prints the answer and the chain's pairs; then changed,
 //                             if a place that is not of the chain is
+//   charge A O PRICE          charges for what node A accesses and node O does not own, and prints the charge
 //   a number, a piece         belongs to the section that is open
 mod actions;
 mod building;

@@ -7,6 +7,7 @@ use Rattle.model.specs.Tests.{_==_, _<?_, pick}
 use Rattle.model.specs.Words.{holds}
 use Rattle.model.specs.declared.Report.{Report}
 use Rattle.model.specs.declared.WrittenReport.{WrittenReport}
+use Rattle.model.specs.declared.ChargeReport.{ChargeReport}
 
 abbrev pub Text : Type 0
 Text = List ℕ
@@ -24,10 +25,13 @@ decimal n = digitsWithin 20 n
 unfoldable pub spaced : ℕ → Text
 spaced n = 32 ∷ decimal n
 
+-- a word and three numbers
+unfoldable pub numbersText : Text → ℕ → ℕ → ℕ → Text
+numbersText word first second third = word ++ spaced first ++ spaced second ++ spaced third ++ (10 ∷ [])
+
 -- "accepted", then "symbols, nodes, steps"; "A refusal prints only", then the word, number and place
-unfoldable pub acceptedText : ℕ → ℕ → ℕ → Text
-acceptedText symbols nodes steps =
-    (97 ∷ 99 ∷ 99 ∷ 101 ∷ 112 ∷ 116 ∷ 101 ∷ 100 ∷ []) ++ spaced symbols ++ spaced nodes ++ spaced steps ++ (10 ∷ [])
+abbrev pub acceptedText : ℕ → ℕ → ℕ → Text
+acceptedText = numbersText (97 ∷ 99 ∷ 99 ∷ 101 ∷ 112 ∷ 116 ∷ 101 ∷ 100 ∷ [])
 
 unfoldable pub refusedText : ℕ → ℕ → Text
 refusedText number place = (114 ∷ 101 ∷ 102 ∷ 117 ∷ 115 ∷ 101 ∷ 100 ∷ []) ++ spaced number ++ spaced place ++ (10 ∷ [])
@@ -57,6 +61,13 @@ explanationText t = pick (t .number == 0) (explainedText (t .length)) (refusedTe
 -- the line of a chain's pair: its node, its element
 unfoldable pub pairText : ℕ → ℕ → Text
 pairText node element = decimal node ++ spaced element ++ (10 ∷ [])
+
+-- "charged", then count, cents and remainder; a refusal as above
+abbrev pub chargedText : ℕ → ℕ → ℕ → Text
+chargedText = numbersText (99 ∷ 104 ∷ 97 ∷ 114 ∷ 103 ∷ 101 ∷ 100 ∷ [])
+
+unfoldable pub chargeText : ChargeReport → Text
+chargeText t = pick (t .number == 0) (chargedText (t .count) (t .cents) (t .remainder)) (refusedText (t .number) (t .place))
 
 -- the text was put behind the first `at` bytes of a line, and ends at `end`
 pub record Appended (before after : Text) (at : ℕ) (text : Text) (end : ℕ) : Type 0 where

@@ -4,10 +4,12 @@ mod members;
 mod text;
 
 use lines::answer_line;
+use lines::charge_line;
 use lines::explanation_line;
 use lines::pair_line;
 use lines::piece_line;
 use model::Answer;
+use model::Charge;
 use model::Written;
 ghost use Prim.Native.Nat.{_<_};
 
@@ -22,6 +24,13 @@ pub fn print_answer(answer: Answer) -> bool {
 pub fn print_explanation(answer: Written) -> bool {
     let mut line = [0u8; 12288];
     let end = explanation_line(&mut line, answer);
+    io::write_all(1, &line[..end])
+}
+
+// Writes the line of a charge or of its refusal, and answers whether it could.
+pub fn print_charge(answer: Charge) -> bool {
+    let mut line = [0u8; 12288];
+    let end = charge_line(&mut line, answer);
     io::write_all(1, &line[..end])
 }
 

@@ -5,23 +5,25 @@ use crate::text::append_bytes;
 use crate::text::append_decimal;
 use crate::text::append_spaced;
 use answers::report_answer;
+use answers::report_charge;
 use answers::report_written;
 use model::Answer;
+use model::Charge;
 use model::Written;
 ghost use Prim.Native.Nat.{_≤_};
 ghost use lib.ListN.{length};
-ghost use Rattle.model.specs.Answers.{report, writtenReport};
-ghost use Rattle.listing.specs.Text.{acceptedText, refusedText, answerText, pieceText, explainedText, explanationText, pairText, Shown};
+ghost use Rattle.model.specs.Answers.{report, writtenReport, chargeReport};
+ghost use Rattle.listing.specs.Text.{numbersText, refusedText, answerText, chargeText, pieceText, explainedText, explanationText, pairText, Shown};
 
-// The line of an acceptance: symbols, nodes, steps.
-fn accepted_line(line: &mut [u8], symbols: usize, nodes: usize, steps: usize) -> usize
-    requires { ⌜ 12288 ≤ length (now line) ⌝ }
-    ensures { λ r. ⌜ Shown (now (line .exit)) (acceptedText symbols nodes steps) r ⌝ }
+// The line of an acceptance or of a charge: its word, and its three numbers.
+fn numbers_line(line: &mut [u8], word: &[u8], first: usize, second: usize, third: usize) -> usize
+    requires { ⌜ (12288 ≤ length (now line)) × (length (now word) ≤ 8) ⌝ }
+    ensures { λ r. ⌜ Shown (now (line .exit)) (numbersText (now (word .entry)) first second third) r ⌝ }
 {
-    let end = append_bytes(line, 0, b"accepted");
-    let end = append_spaced(line, end, symbols);
-    let end = append_spaced(line, end, nodes);
-    let end = append_spaced(line, end, steps);
+    let end = append_bytes(line, 0, word);
+    let end = append_spaced(line, end, first);
+    let end = append_spaced(line, end, second);
+    let end = append_spaced(line, end, third);
     append_byte(line, end, b'\n')
 }
 
@@ -43,9 +45,34 @@ pub fn answer_line(line: &mut [u8], answer: Answer) -> usize
 {
     let report = report_answer(answer);
     if report.number == 0 {
-        accepted_line(line, report.symbols, report.nodes, report.steps)
+        numbers_line(
+            line,
+            b"accepted",
+            report.symbols,
+            report.nodes,
+            report.steps,
+        )
     } else {
         refused_line(line, report.number, report.place)
+    }
+}
+
+// The line of a charge or of its refusal.
+pub fn charge_line(line: &mut [u8], answer: Charge) -> usize
+    requires { ⌜ 12288 ≤ length (now line) ⌝ }
+    ensures { λ r. ⌜ Shown (now (line .exit)) (chargeText (chargeReport answer)) r ⌝ }
+{
+    let charge = report_charge(answer);
+    if charge.number == 0 {
+        numbers_line(
+            line,
+            b"charged",
+            charge.count,
+            charge.cents,
+            charge.remainder,
+        )
+    } else {
+        refused_line(line, charge.number, charge.place)
     }
 }
 

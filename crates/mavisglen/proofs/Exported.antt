@@ -8,14 +8,17 @@ use Rattle.model.specs.Bytes.{Bytes}
 use Rattle.model.specs.Verdict.{verdict}
 use Rattle.model.specs.Evaluation.{evaluation}
 use Rattle.model.specs.Provenance.{explanation}
-use Rattle.model.specs.Packed.{Packing, packedBy, unpackedBy, answerPacking, packed, writtenPacking}
-use Rattle.model.specs.Promises.{CheckPromise, EvaluationPromise, ExplanationPromise}
+use Rattle.model.specs.Transfers.{charge}
+use Rattle.model.specs.Packed.{Packing, packedBy, unpackedBy, answerPacking, packed, writtenPacking, chargePacking}
+use Rattle.model.specs.Promises.{CheckPromise, EvaluationPromise, ExplanationPromise, ChargePromise}
 use Rattle.model.specs.declared.Answer.{Answer}
 use Rattle.model.specs.declared.Question.{Question}
 use Rattle.model.specs.declared.Written.{Written}
-use Rattle.model.proofs.Answers.{report-injective, written-injective}
-use Rattle.model.proofs.Packed.{verdict-read, evaluation-read, explanation-read}
-use Rattle.mavisglen.specs.Exported.{Exported, ExportedCheck, ExportedEvaluation, ExportedExplanation}
+use Rattle.model.specs.declared.Transfer.{Transfer}
+use Rattle.model.specs.declared.Charge.{Charge}
+use Rattle.model.proofs.Answers.{report-injective, written-injective, charge-injective}
+use Rattle.model.proofs.Packed.{verdict-read, evaluation-read, explanation-read, charge-read}
+use Rattle.mavisglen.specs.Exported.{Exported, ExportedCheck, ExportedEvaluation, ExportedExplanation, ExportedCharge}
 
 -- for answers of any type that what they report determines; `defined` is what the definition answers
 exported :
@@ -45,3 +48,8 @@ pub exported-explanation :
 exported-explanation result r e p d q oldNodes newNodes oldElements newElements h =
     exported writtenPacking written-injective (ExplanationPromise p d q oldNodes newNodes oldElements newElements) result r
     (explanation p d q (length oldNodes) (length oldElements)) e (h .answer) (explanation-read p d q (length oldNodes) (length oldElements)) h
+
+pub exported-charge :
+    (result : ℕ) (r : Charge) → result ≡ packedBy chargePacking r → (p d : Bytes) (t : Transfer) → ChargePromise p d t r → ExportedCharge p d t result
+exported-charge result r e p d t h =
+    exported chargePacking charge-injective (ChargePromise p d t) result r (charge p d t) e (h .answer) (charge-read p d t) h

@@ -3,9 +3,10 @@ use Prim.Native.Nat.{ℕ}
 use mathlib.Core.Path.{_≡_}
 use mathlib.Core.List.{List}
 use Rattle.model.specs.Bytes.{Bytes}
-use Rattle.model.specs.Packed.{Packing, packedBy, unpackedBy, answerPacking, writtenPacking}
-use Rattle.model.specs.Promises.{CheckPromise, EvaluationPromise, ExplanationPromise}
+use Rattle.model.specs.Packed.{Packing, packedBy, unpackedBy, answerPacking, writtenPacking, chargePacking}
+use Rattle.model.specs.Promises.{CheckPromise, EvaluationPromise, ExplanationPromise, ChargePromise}
 use Rattle.model.specs.declared.Question.{Question}
+use Rattle.model.specs.declared.Transfer.{Transfer}
 
 -- the number returned is that of an answer which keeps the entry point's whole promise, and a caller reads from it what the answer reports
 pub record Exported {A R : Type 0} (packing : Packing A R) (Promise : A → Type 0) (result : ℕ) : Type 0 where
@@ -26,3 +27,7 @@ ExportedEvaluation p d old new = Exported answerPacking (EvaluationPromise p d o
 abbrev pub ExportedExplanation : Bytes → Bytes → Question → List ℕ → List ℕ → List ℕ → List ℕ → ℕ → Type 0
 ExportedExplanation p d q oldNodes newNodes oldElements newElements =
     Exported writtenPacking (ExplanationPromise p d q oldNodes newNodes oldElements newElements)
+
+-- charging for t: the promise of `charge`
+abbrev pub ExportedCharge : Bytes → Bytes → Transfer → ℕ → Type 0
+ExportedCharge p d t = Exported chargePacking (ChargePromise p d t)

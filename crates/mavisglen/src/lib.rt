@@ -1,11 +1,13 @@
 // The entry points for C and Rust: an answer comes as one number.
 use model::Answer;
+use model::Charge;
 use model::Refusal;
 use model::Written;
 ghost use mathlib.Core.Path.{_≡_};
-ghost use Rattle.model.specs.Packed.{tagged, pack as packedTag, refusalTag, packed, packedBy, writtenPacking};
+ghost use Rattle.model.specs.Packed.{tagged, pack as packedTag, refusalTag, packed, packedBy, writtenPacking, chargePacking};
 ghost use Rattle.model.specs.Provenance.{asking};
-ghost use Rattle.mavisglen.specs.Exported.{ExportedCheck, ExportedEvaluation, ExportedExplanation};
+ghost use Rattle.model.specs.Transfers.{transferring};
+ghost use Rattle.mavisglen.specs.Exported.{ExportedCheck, ExportedEvaluation, ExportedExplanation, ExportedCharge};
 
 // Checks a plan.
 #[no_mangle]
@@ -42,6 +44,21 @@ pub extern "C" fn mavisglen_explain(
     pack_written(answer)
 }
 
+// Charges for the elements of the accessed node's pieces that the owned node's lack.
+#[no_mangle]
+pub extern "C" fn mavisglen_charge(
+    plan: &[u8],
+    data: &[u8],
+    accessed: usize,
+    owned: usize,
+    price: u64,
+) -> u64
+    ensures { λ r. ⌜ ExportedCharge (now (plan .entry)) (now («data» .entry)) (transferring accessed owned price) r ⌝ }
+{
+    let answer = transfer::charge(plan, data, accessed, owned, price);
+    pack_charge(answer)
+}
+
 // An acceptance: number 0, and the counts in 8 bits each.
 fn pack_answer(answer: Answer) -> u64
     ensures { λ r. ⌜ r ≡ packed answer ⌝ }
@@ -63,6 +80,23 @@ fn pack_written(answer: Written) -> u64
     match answer {
         Written::Length(length) => pack(0, length),
         Written::Refused(refusal) => pack_refusal(refusal),
+    }
+}
+
+// A charge: number 0, and the count in 16 bits, the cents in 24 and the remainder in 16.
+fn pack_charge(answer: Charge) -> u64
+    ensures { λ r. ⌜ r ≡ packedBy chargePacking answer ⌝ }
+{
+    match answer {
+        Charge::Charged {
+            count,
+            cents,
+            remainder,
+        } => pack(
+            0,
+            count % 65_536 + (cents % 16_777_216 << 16) + (remainder % 65_536 << 40),
+        ),
+        Charge::Refused(refusal) => pack_refusal(refusal),
     }
 }
 

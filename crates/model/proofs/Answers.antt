@@ -6,22 +6,24 @@ use mathlib.Core.List.{List, [], _∷_, map}
 use native.Mathlib.Omega.{arith}
 use lib.ListN.{getD, List·getD-eq-default}
 use Rattle.model.specs.Tests.{_<?_}
-use Rattle.model.specs.Answers.{refusal, refusalReport, report, writtenReport}
+use Rattle.model.specs.Answers.{refusal, refusalReport, report, writtenReport, chargeReport}
 use Rattle.model.specs.declared.Refusal.{Refusal}
-use Rattle.model.specs.declared.Refusal.the-variants.{Truncated, UnknownEdition, TrailingBytes, InvalidLength, InvalidRecord, RegionMismatch, DuplicateNode, NotParallelizable, AssignmentCount, UnlicensedStep, UnmetNeed, InvalidData, InvalidEntry, InvalidPartition, OutputTooSmall, NotFound}
+use Rattle.model.specs.declared.Refusal.the-variants.{Truncated, UnknownEdition, TrailingBytes, InvalidLength, InvalidRecord, RegionMismatch, DuplicateNode, NotParallelizable, AssignmentCount, UnlicensedStep, UnmetNeed, InvalidData, InvalidEntry, InvalidPartition, OutputTooSmall, NotFound, InvalidCharge}
 use Rattle.model.specs.declared.Outcome.{Outcome}
 use Rattle.model.specs.declared.Outcome.the-variants.{Pass, Refuse}
 use Rattle.model.specs.declared.Answer.{Answer}
 use Rattle.model.specs.declared.Answer.the-variants.{Accepted, Refused}
 use Rattle.model.specs.declared.Written.{Written}
 use Rattle.model.specs.declared.Written.the-variants as written
+use Rattle.model.specs.declared.Charge.{Charge}
+use Rattle.model.specs.declared.Charge.the-variants as charge
 use Rattle.model.proofs.Tests.{split, lacks, less, less! }
 
 -- the refusals in the order of their numbers, each by its place
 unfoldable refusals : List (ℕ → Refusal)
 refusals =
     Truncated ∷ (λ p. UnknownEdition) ∷ TrailingBytes ∷ InvalidLength ∷ InvalidRecord ∷ RegionMismatch ∷ DuplicateNode ∷ NotParallelizable ∷
-    AssignmentCount ∷ UnlicensedStep ∷ UnmetNeed ∷ (λ p. InvalidData) ∷ InvalidEntry ∷ InvalidPartition ∷ OutputTooSmall ∷ NotFound ∷ []
+    AssignmentCount ∷ UnlicensedStep ∷ UnmetNeed ∷ (λ p. InvalidData) ∷ InvalidEntry ∷ InvalidPartition ∷ OutputTooSmall ∷ NotFound ∷ InvalidCharge ∷ []
 
 -- the refusal of a number at a place; 0 and the numbers past the last stand for none
 unfoldable refusalAt : ℕ → ℕ → Outcome
@@ -51,6 +53,7 @@ stands-for (InvalidEntry p) = (refl, refl)
 stands-for (InvalidPartition p) = (refl, refl)
 stands-for (OutputTooSmall p) = (refl, refl)
 stands-for (NotFound p) = (refl, refl)
+stands-for (InvalidCharge p) = (refl, refl)
 
 -- a number that stands for a refusal is one of the table's: 0 is left to acceptance, 255 to no answer of these
 number-of : (r : Refusal) (n p : ℕ) → refusalAt n p ≡ Refuse r → (1 ≤ n) × (n < 255)
@@ -100,3 +103,13 @@ written-injective (written.Length n) (written.Refused b) e = absurd (omega (arit
 written-injective (written.Refused a) (written.Length m) e = absurd (omega (arith, ap (λ t. t .number) e, number-in-table a .0))
 written-injective (written.Refused a) (written.Refused b) e =
     ap written.Refused (place-injective a b (ap (λ t. t .number) e) (ap (λ t. t .place) e))
+
+-- and of a charge
+pub charge-injective : (a b : Charge) → chargeReport a ≡ chargeReport b → a ≡ b
+unfolding chargeReport
+charge-injective (charge.Charged n c m) (charge.Charged n' c' m') e =
+    let counts = ap (λ t. t .count) e in let cents = ap (λ t. t .cents) e in let remainders = ap (λ t. t .remainder) e in rw (counts, cents, remainders)
+charge-injective (charge.Charged n c m) (charge.Refused b) e = absurd (omega (arith, ap (λ t. t .number) e, number-in-table b .0))
+charge-injective (charge.Refused a) (charge.Charged n c m) e = absurd (omega (arith, ap (λ t. t .number) e, number-in-table a .0))
+charge-injective (charge.Refused a) (charge.Refused b) e =
+    ap charge.Refused (place-injective a b (ap (λ t. t .number) e) (ap (λ t. t .place) e))

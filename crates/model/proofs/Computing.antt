@@ -1,7 +1,7 @@
 -- The definitions of a verdict and of an evaluation, for proofs by computation: `unfolding definitions` opens them all. Assumes nothing.
 use Rattle.model.specs.Tests.{_and_, _or_, non, _==_, _<?_, _≤?_, any, every, pick, first}
-use Rattle.model.specs.Answers.{report, writtenReport}
-use Rattle.model.specs.Outcomes.{require, _then_, scan, conclude, concludeWriting}
+use Rattle.model.specs.Answers.{report, writtenReport, chargeReport}
+use Rattle.model.specs.Outcomes.{require, _then_, scan, conclude, concludeWriting, concludeCharge}
 use Rattle.model.specs.Bytes.{boundary, body}
 use Rattle.model.specs.Recursion.{below, levels, course}
 use Rattle.model.specs.Partitions.{union, intersection, difference, image, preimage, contiguous, equalStart}
@@ -16,8 +16,10 @@ use Rattle.model.specs.Verdict.{recordsCheck, planCheck, verdict}
 use Rattle.model.specs.DataSets.{size, entryStart, entry, low, past, mapsTo, pieceBytes, memberStart, suppliedBit, supplied, entryFits, entriesCheck, suppliedDisjoint, suppliedComplete, padBitsClear, declarationsHold, wellFramed, dataCheck}
 use Rattle.model.specs.Membership.{equal, nodeSetsBy, nodeSets, member}
 use Rattle.model.specs.Words.{bit, holds, fromBits, word, store, listAfter}
+use Rattle.model.specs.Counting.{count, sum, ones, without, onesLacking}
 use Rattle.model.specs.Evaluation.{inputsCheck, evaluationCheck, evaluation, nodeWord, filledWords}
 use Rattle.model.specs.Provenance.{endsBy, leastSource, leastTarget, nextBy, nextPair, pairAt, chainLength, chainPair, pairsNeeded, questionCheck, chainRoomCheck, explanationCheck, explanation}
+use Rattle.model.specs.Transfers.{fetched, transferCount, transferOnes, transferCheck, priced, chargeCheck, charge}
 
 unfoldable pub definitions : Unit {0}
 unfolding
@@ -36,4 +38,5 @@ unfolding
     inputsCheck evaluationCheck evaluation nodeWord filledWords bit holds fromBits word store
     endsBy leastSource leastTarget nextBy nextPair pairAt chainLength chainPair pairsNeeded questionCheck chainRoomCheck explanationCheck explanation
     concludeWriting writtenReport listAfter
+    count sum ones without onesLacking fetched transferCount transferOnes transferCheck priced chargeCheck charge concludeCharge chargeReport
 definitions = tt

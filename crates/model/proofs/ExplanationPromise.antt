@@ -25,7 +25,7 @@ use Rattle.model.specs.PlainSets.{DefinedSets}
 use Rattle.model.specs.Grounds.{PairExists, Grounds, Explainable}
 use Rattle.model.specs.GivenWhen.{QuestionGivenWhen, no-node, no-piece, no-element, no-member, chain-too-long, ExplanationGivenWhen, of-plan, of-data, of-question, of-chain}
 use Rattle.model.specs.RefusalOrder.{turns, turn, Earlier, by-stage, by-item, by-check}
-use Rattle.model.specs.Promises.{AcceptedInputs, ExplanationPromise}
+use Rattle.model.specs.Promises.{ExplanationPromise}
 use Rattle.model.specs.declared.Refusal.{Refusal}
 use Rattle.model.specs.declared.Outcome.the-variants.{Pass, Refuse}
 use Rattle.model.specs.declared.Written.{Written}
@@ -38,7 +38,7 @@ use Rattle.model.proofs.Fitting.{Fit, fit}
 use Rattle.model.proofs.DataAgrees.{data-refuses}
 use Rattle.model.proofs.SetsAgree.{SameSets, sets-agree, members-follow}
 use Rattle.model.proofs.Provenance.{pair-exists, exists-inside, exists-few, MembersOf, grounds-at, grounds-same, chain-only, chain-few, chain-grounds}
-use Rattle.model.proofs.JudgementPromise.{inputs-accepted, inputs-exactly}
+use Rattle.model.proofs.AcceptedInputs.{AcceptedInputs, inputs-accepted, inputs-exactly}
 use Rattle.model.proofs.GivenWhen.{plan-refuses}
 use Rattle.model.proofs.FirstMet.{plan-rows-clear, data-rows-clear, after-inputs, clear-before}
 

@@ -25,13 +25,16 @@ pub mod Fitting
 pub mod NodeSets
 pub mod PrivateParts
 pub mod PrivateExamples
+pub mod ChargedExample
 pub mod Steps
 pub mod Bounds
 pub mod SubregionsAgree
 pub mod Words
+pub mod Counting
 pub mod SetsAgree
 pub mod FinalWords
 pub mod Provenance
+pub mod Transfers
 pub mod Demand3
 pub mod EvaluatedExample
 pub mod Refutations
@@ -39,8 +42,9 @@ pub mod Demand2Loops
 pub mod GivenWhen
 pub mod FirstMet
 pub mod EvaluationPromise
-pub mod JudgementPromise
+pub mod AcceptedInputs
 pub mod ExplanationPromise
+pub mod ChargePromise
 pub mod Demand2
 pub mod AllToFirst
 pub mod ExactRule

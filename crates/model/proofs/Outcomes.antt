@@ -8,14 +8,16 @@ use native.Mathlib.Omega.{arith}
 use lib.Dec.{eqb}
 use borrow.Author.Tests.{eqb-true, eqb-false}
 use Rattle.model.specs.Tests.{Is, non}
-use Rattle.model.specs.Outcomes.{require, _then_, scan, conclude, concludeWriting}
+use Rattle.model.specs.Outcomes.{require, _then_, scan, conclude, concludeWriting, concludeCharge}
 use Rattle.model.specs.declared.Refusal.{Refusal}
 use Rattle.model.specs.declared.Outcome.{Outcome}
 use Rattle.model.specs.declared.Outcome.the-variants.{Pass, Refuse}
 use Rattle.model.specs.declared.Answer.{Answer}
-use Rattle.model.proofs.Tests.{failing, left}
+use Rattle.model.proofs.Tests.{fails, failing, refuted, left}
 use Rattle.model.specs.declared.Answer.the-variants.{Accepted, Refused}
 use Rattle.model.specs.declared.Written.the-variants as written
+use Rattle.model.specs.declared.Charge.{Charge}
+use Rattle.model.specs.declared.Charge.the-variants as charge
 
 pub never {ℓ} : {A : Type ℓ} {r : Refusal} → Refuse r ≡ Pass → A
 never h = let z : _≡_ {A = ℕ} 0 1 = cc in absurd (omega arith)
@@ -53,6 +55,11 @@ require-pass false r h = never h
 pub required : (b : Bool) (r : Refusal) → Is b → require b r ≡ Pass
 unfolding require
 required b r h = rw (h, require)
+
+-- a test that fails is refused
+pub require-fails : {b : Bool} {r : Refusal} → (Is b → ⊥) → require b r ≡ Refuse r
+unfolding require
+require-fails n = rw (fails (refuted n), require)
 
 pub require-refuse : (b : Bool) (q r : Refusal) → require b q ≡ Refuse r → Is (non b) × (q ≡ r)
 unfolding require
@@ -152,6 +159,22 @@ writing-refused (Refuse q) m r h = cc
 pub writing-pass : (o : Outcome) (m : ℕ) → o ≡ Pass → concludeWriting o m ≡ written.Length m
 unfolding concludeWriting
 writing-pass o m h = rw (h, concludeWriting)
+
+-- and where a charge is made
+pub charging-charged :
+    (o : Outcome) (a : Charge) (n c m : ℕ) → concludeCharge o a ≡ charge.Charged n c m → (o ≡ Pass) × (a ≡ charge.Charged n c m)
+unfolding concludeCharge
+charging-charged Pass a n c m h = (refl, h)
+charging-charged (Refuse r) a n c m h = let z : _≡_ {A = ℕ} 0 1 = cc in absurd (omega arith)
+
+pub charging-refused : (o : Outcome) (n c m : ℕ) (r : Refusal) → concludeCharge o (charge.Charged n c m) ≡ charge.Refused r → o ≡ Refuse r
+unfolding concludeCharge
+charging-refused Pass n c m r h = let z : _≡_ {A = ℕ} 0 1 = cc in absurd (omega arith)
+charging-refused (Refuse q) n c m r h = cc
+
+pub charging-pass : (o : Outcome) (a : Charge) → o ≡ Pass → concludeCharge o a ≡ a
+unfolding concludeCharge
+charging-pass o a h = rw (h, concludeCharge)
 
 -- a loop over records: what is left to scan is the whole scan's outcome
 pub scan-start : (f : ℕ → Outcome) (n : ℕ) → scan f 0 (n - 0) ≡ scan f 0 n

@@ -1,15 +1,16 @@
--- Packing loses nothing: the answers of checking, evaluating and explaining fit their bits, so that what a caller reads from the number is what
+-- Packing loses nothing: the answers of checking, evaluating, explaining and charging fit their bits, so that what a caller reads from the number is what
 -- the answer tells. They fit for all inputs, because the limits of sections, sizes and pieces are checked before the places that they bound.
 -- Assumes nothing.
 use Prim.Native.Nat.{ℕ, zero, suc, _+_, _*_, _/_, _%_, _^_, _≤_, _<_}
 use mathlib.Core.Path.{_≡_, refl, sym, ap, _∙_}
 use mathlib.Core.Logic.{inl, inr}
-use mathlib.Core.Bool.{Bool}
-use native.Mathlib.Nat.{mul-le-mul-right}
+use mathlib.Core.Bool.{Bool, false}
+use native.Mathlib.Nat.{mul-le-mul-right, mul-le-mul}
 use native.Mathlib.Omega.{arith}
-use Rattle.model.specs.Answers.{refusalReport, report, writtenReport}
+use Rattle.model.specs.Tests.{_==_}
+use Rattle.model.specs.Answers.{refusalReport, report, writtenReport, chargeReport}
 use Rattle.model.specs.Bytes.{Bytes, u16, boundary}
-use Rattle.model.specs.Outcomes.{require, _then_, scan, conclude, concludeWriting}
+use Rattle.model.specs.Outcomes.{require, _then_, scan, conclude, concludeWriting, concludeCharge}
 use Rattle.model.specs.Layout.{Plan, planOf, shapes, shapeOf, sectionCheck, layoutCheck, statementCount, source}
 use Rattle.model.specs.Statements.{statementCheck}
 use Rattle.model.specs.Parallel.{loopCheck}
@@ -23,20 +24,23 @@ use Rattle.model.specs.DataSets.{entriesCheck, dataCheck}
 use Rattle.model.specs.Evaluation.{inputsCheck, evaluationCheck, evaluation}
 use Rattle.model.specs.declared.Question.{Question}
 use Rattle.model.specs.Provenance.{questionCheck, chainRoomCheck, explanationCheck, explanation}
-use Rattle.model.specs.Packed.{TaggedValue, pack, unpack, Packing, packedBy, unpackedBy, refusalTag, answerTag, answerRead, answerPacking, packed, unpacked, writtenTag, writtenRead, writtenPacking}
+use Rattle.model.specs.declared.Transfer.{Transfer}
+use Rattle.model.specs.Transfers.{transferCheck, priced, chargeCheck, charge}
+use Rattle.model.specs.Packed.{TaggedValue, pack, unpack, Packing, packedBy, unpackedBy, refusalTag, answerTag, answerRead, answerPacking, packed, unpacked, writtenTag, writtenRead, writtenPacking, chargeTag, chargeRead, chargePacking}
 use Rattle.model.specs.declared.Refusal.{Refusal}
 use Rattle.model.specs.declared.Outcome.{Outcome}
 use Rattle.model.specs.declared.Outcome.the-variants.{Pass, Refuse}
 use Rattle.model.specs.declared.Answer.{Answer}
 use Rattle.model.specs.declared.Answer.the-variants.{Accepted, Refused}
-use Rattle.model.specs.declared.Written.the-variants as written
+use Rattle.model.specs.declared.Charge.the-variants.{Charged}
 use Rattle.model.proofs.Tests.{split, fails, refuted, same, same!, pick-true, pick-false, _also_, at-each}
 use Rattle.model.proofs.Outcomes.{then-cases, then-pass, require-pass, require-refuse, scan-pass, scan-refuse}
 use Rattle.model.proofs.Answers.{no-counts, number-in-table, report-injective}
 use Rattle.model.proofs.Accepted.{Section, section-pass, laid-out, limits, plan-accepted}
 use Rattle.model.proofs.DataAgrees.{frame-fits}
-use Rattle.model.proofs.JudgementPromise.{inputs-accepted, words-most}
+use Rattle.model.proofs.AcceptedInputs.{inputs-accepted, words-most}
 use Rattle.model.proofs.ExplanationPromise.{explanation-needed}
+use Rattle.model.proofs.ChargePromise.{charge-few}
 
 -- an answer whose numbers fit their bits, with room to spare
 pub record Packable (r : Answer) : Type 0 where
@@ -74,12 +78,13 @@ counts-read s n t ls ln lt =
     let bits : (value % 2 ^ 8 ≡ s) × (value / 2 ^ 8 % 2 ^ 8 ≡ n) × (value / 2 ^ 16 % 2 ^ 8 ≡ t) = (omega arith, omega arith, omega arith) in
     pick-true _ _ _ (same! refl) ∙ rw (bits .0, bits .1, bits .2)
 
--- a refusal
+-- a refusal is not under number 0
+not-zero : (r : Refusal) → (refusalReport r .number == 0) ≡ false
+not-zero r = let some = number-in-table r .0 in fails (refuted (λ h. let z = same h in omega arith))
+
 place-read : (r : Refusal) → answerRead (refusalTag r) ≡ refusalReport r
 unfolding answerRead
-place-read r =
-    let some = number-in-table r .0 in
-    pick-false _ _ _ (fails (refuted (λ h. let z = same h in omega arith))) ∙ sym (no-counts r)
+place-read r = pick-false _ _ _ (not-zero r) ∙ sym (no-counts r)
 
 -- answers that fit their bits
 lossless : (r : Answer) → Packable r → Lossless answerPacking r
@@ -256,11 +261,10 @@ unfolding concludeWriting writtenReport writtenTag writtenRead
 written-lossless Pass n near few =
     let l = few refl in record { small-number = omega arith; small-value = omega arith; same-report = pick-true _ _ _ (same! refl) }
 written-lossless (Refuse r) n near few =
-    let some = number-in-table r .0 in
     record {
       small-number = omega (arith, number-in-table r .1);
       small-value = omega (arith, near r refl);
-      same-report = pick-false _ _ _ (fails (refuted (λ h. let z = same h in omega arith)));
+      same-report = pick-false _ _ _ (not-zero r);
     }
 
 pub explanation-read :
@@ -271,3 +275,40 @@ explanation-read p d q lentNodes lentElements =
     read-back writtenPacking _
     (written-lossless _ _ (explanation-near p d q lentNodes lentElements)
     (λ h. let (inputs, rest) = then-pass _ _ h in explanation-needed p d q inputs (then-pass _ _ rest .0)))
+
+-- charging: 17 has a place up to 3, and the most is 16 pieces of 512 elements at 1,000,000
+charge-near : (p d : Bytes) (t : Transfer) → Near (chargeCheck p d t)
+unfolding chargeCheck transferCheck
+charge-near p d t =
+    near-then _ _ (inputs-near p d) λ inputs.
+    near-then _ _ (near-require _ _ (omega arith)) λ nodes.
+    near-then _ _ (near-require _ _ (omega arith)) λ regions. near-require _ _ (omega arith)
+
+-- a charge whose numbers fit their bits
+charge-numbers : (n c m : ℕ) → n < 2 ^ 16 → c < 2 ^ 24 → m < 2 ^ 16 → chargeRead (chargeTag (Charged n c m)) ≡ chargeReport (Charged n c m)
+unfolding chargeRead chargeTag
+charge-numbers n c m ln lc lm =
+    let value : ℕ = chargeTag (Charged n c m) .value in
+    let bits : (value % 2 ^ 16 ≡ n) × (value / 2 ^ 16 % 2 ^ 24 ≡ c) × (value / 2 ^ 40 % 2 ^ 16 ≡ m) = (omega arith, omega arith, omega arith) in
+    pick-true _ _ _ (same! refl) ∙ rw (bits .0, bits .1, bits .2)
+
+charge-lossless : (o : Outcome) (n price : ℕ) → Near o → (o ≡ Pass → (n ≤ 8192) × (price ≤ 1000000)) → Lossless chargePacking (concludeCharge o (priced n price))
+unfolding concludeCharge priced chargeReport chargeTag chargeRead
+charge-lossless Pass n price near few =
+    let (ln, lp) = few refl in
+    let most : n * price ≤ 8192 * 1000000 = mul-le-mul {n₂ = 8192} {m₂ = 1000000} ln lp in
+    record {
+      small-number = omega arith;
+      small-value = omega arith;
+      same-report = charge-numbers n (n * price / 1000) (n * price % 1000) (omega arith) (omega arith) (omega arith);
+    }
+charge-lossless (Refuse r) n price near few =
+    record {
+      small-number = omega (arith, number-in-table r .1);
+      small-value = omega (arith, near r refl);
+      same-report = pick-false _ _ _ (not-zero r);
+    }
+
+pub charge-read : (p d : Bytes) (t : Transfer) → unpackedBy chargePacking (packedBy chargePacking (charge p d t)) ≡ chargeReport (charge p d t)
+unfolding charge
+charge-read p d t = read-back chargePacking _ (charge-lossless _ _ _ (charge-near p d t) (charge-few p d t))

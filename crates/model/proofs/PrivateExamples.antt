@@ -43,7 +43,7 @@ abbrev filing : Bytes → ℕ → ℕ → Bytes
 filing nodes d x = plan (1 ∷ []) (0 ∷ 0 ∷ 0 ∷ 0 ∷ 0 ∷ 0 ∷ []) (0 ∷ 0 ∷ []) [] nodes [] (1 ∷ d ∷ 0 ∷ 0 ∷ 0 ∷ 21 ∷ x ∷ 0 ∷ 0 ∷ 0 ∷ [])
 
 -- two pieces of four elements. Map 0 leads 0, 1, 2, 3 to 0, 1, 1, 2, map 1 leads nowhere; the supplied partition has all elements in both pieces
-abbrev mesh : Bytes
+abbrev pub mesh : Bytes
 mesh =
     framedBytes 1
     ((2 ∷ [])

@@ -18,12 +18,9 @@ use Rattle.model.specs.declared.Refusal.the-variants.{OutputTooSmall}
 abbrev pub wordsNeeded : Plan → DataSet → ℕ
 wordsNeeded P D = nodeCount P * pieces D * 8
 
--- plan and data set without the output, "checks first": whoever brings words enough for every plan is refused for nothing else
+-- plan and data set without the output, "checks first"
 unfoldable pub inputsCheck : Bytes → Bytes → Outcome
 inputsCheck p d = planCheck p then dataCheck (planOf p) d
-
-unfoldable pub judgement : Bytes → Bytes → Answer
-judgement p d = conclude (inputsCheck p d) (accepted (planOf p))
 
 -- words enough for every plan and data set: 48 nodes of 16 pieces of 8 words
 abbrev pub MOST_WORDS : ℕ

@@ -15,6 +15,8 @@ use Rattle.model.specs.PlainData.{WellFramed, EntryFits, DeclarationsHol
 use Rattle.model.specs.PlainSets.{DefinedSets}
 use Rattle.model.specs.declared.Question.{Question}
 use Rattle.model.specs.Grounds.{PairExists, Grounds}
+use Rattle.model.specs.declared.Transfer.{Transfer}
+use Rattle.model.specs.Fetches.{BothExist, OneRegion}
 
 -- Stray, at section × 256 + record
 pub data RecordInvalid (P : Plan) (place : ℕ) : Type 0 where
@@ -135,3 +137,18 @@ pub data ExplanationGivenWhen (p d : Bytes) (q : Question) (lentNodes lentElemen
   of-chain :
       ChainGivenWhen (planOf p) (dataOf d) q lentNodes lentElements number place →
       ExplanationGivenWhen p d q lentNodes lentElements number place
+
+-- number 17: nodes and price for which there is no charge
+pub data TransferGivenWhen (P : Plan) (t : Transfer) (number place : ℕ) : Type 0 where
+  -- "a node does not exist", either of them, place 1
+  no-node : number ≡ 17 → place ≡ 1 → (BothExist P t → ⊥) → TransferGivenWhen P t number place
+  -- "the two differ in region", place 2
+  regions-differ : number ≡ 17 → place ≡ 2 → BothExist P t → (OneRegion P t → ⊥) → TransferGivenWhen P t number place
+  -- "the price is above 1,000,000", place 3
+  price-too-high : number ≡ 17 → place ≡ 3 → BothExist P t → OneRegion P t → 1000000 < t .price → TransferGivenWhen P t number place
+
+-- charging, by plan p and data set d
+pub data ChargeGivenWhen (p d : Bytes) (t : Transfer) (number place : ℕ) : Type 0 where
+  of-plan : PlanGivenWhen p number place → ChargeGivenWhen p d t number place
+  of-data : DataGivenWhen (planOf p) d number place → ChargeGivenWhen p d t number place
+  of-transfer : TransferGivenWhen (planOf p) t number place → ChargeGivenWhen p d t number place

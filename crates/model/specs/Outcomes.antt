@@ -8,6 +8,8 @@ use Rattle.model.specs.declared.Answer.{Answer}
 use Rattle.model.specs.declared.Answer.the-variants.{Refused}
 use Rattle.model.specs.declared.Written.{Written}
 use Rattle.model.specs.declared.Written.the-variants as written
+use Rattle.model.specs.declared.Charge.{Charge}
+use Rattle.model.specs.declared.Charge.the-variants as charge
 
 infixr 20 _then_
 -- a test that must pass
@@ -34,3 +36,8 @@ conclude (Refuse r) answer = Refused r
 unfoldable pub concludeWriting : Outcome → ℕ → Written
 concludeWriting Pass n = written.Length n
 concludeWriting (Refuse r) n = written.Refused r
+
+-- and where a charge is made after it
+unfoldable pub concludeCharge : Outcome → Charge → Charge
+concludeCharge Pass answer = answer
+concludeCharge (Refuse r) answer = charge.Refused r

@@ -1,7 +1,7 @@
 -- An answer as one number of 64 bits, for callers in C and Rust, and the way they read it.
 use Prim.Native.Nat.{ℕ, _+_, _*_, _/_, _%_, _^_}
 use Rattle.model.specs.Tests.{pick, _==_}
-use Rattle.model.specs.Answers.{refusal, refusalReport, report, writtenReport}
+use Rattle.model.specs.Answers.{refusal, refusalReport, report, writtenReport, chargeReport}
 use Rattle.model.specs.declared.Refusal.{Refusal}
 use Rattle.model.specs.declared.Answer.{Answer}
 use Rattle.model.specs.declared.Answer.the-variants.{Accepted, Refused}
@@ -9,6 +9,9 @@ use Rattle.model.specs.declared.Report.{Report}
 use Rattle.model.specs.declared.Written.{Written}
 use Rattle.model.specs.declared.Written.the-variants as written
 use Rattle.model.specs.declared.WrittenReport.{WrittenReport}
+use Rattle.model.specs.declared.Charge.{Charge}
+use Rattle.model.specs.declared.Charge.the-variants as charge
+use Rattle.model.specs.declared.ChargeReport.{ChargeReport}
 
 -- what stands in the bits: a number in the low 8, and the value that goes with it in the 56 above them
 pub record TaggedValue : Type 0 where
@@ -81,3 +84,19 @@ writtenRead t =
 -- how answers of entry points that write a list are packed
 abbrev pub writtenPacking : Packing Written WrittenReport
 writtenPacking = record { report = writtenReport; tag = writtenTag; read = writtenRead }
+
+-- a charge: number 0, and above it the count in 16 bits, the cents in 24 and the remainder in 16
+unfoldable pub chargeTag : Charge → TaggedValue
+chargeTag (charge.Charged n cents remainder) = tagged 0 (n % 2 ^ 16 + cents % 2 ^ 24 * 2 ^ 16 + remainder % 2 ^ 16 * 2 ^ 40)
+chargeTag (charge.Refused r) = refusalTag r
+
+-- what a caller makes of them: under number 0 the charge, under any other a refusal at the place
+unfoldable pub chargeRead : TaggedValue → ChargeReport
+chargeRead t =
+    pick (t .number == 0)
+    (chargeReport (charge.Charged (t .value % 2 ^ 16) (t .value / 2 ^ 16 % 2 ^ 24) (t .value / 2 ^ 40 % 2 ^ 16)))
+    (record { number = t .number; place = t .value; count = 0; cents = 0; remainder = 0 })
+
+-- how charges are packed
+abbrev pub chargePacking : Packing Charge ChargeReport
+chargePacking = record { report = chargeReport; tag = chargeTag; read = chargeRead }

@@ -1,4 +1,4 @@
--- What the entry points promise, for all inputs: the contracts of `check`, `evaluate`, `judge` and `explain` cite these
+-- What the entry points promise, for all inputs: the contracts of `check`, `evaluate`, `explain` and `charge` cite these
 -- records.
 use Prim.Native.Nat.{ℕ, _+_, _*_, _/_, _≤_, _<_}
 use mathlib.Core.Path.{_≡_}
@@ -7,33 +7,36 @@ use mathlib.Core.List.{List}
 use mathlib.Core.Bool.{Bool, false}
 use lib.ListN.{length, getD, drop}
 use Rattle.model.specs.Tests.{Is}
-use Rattle.model.specs.Answers.{report, writtenReport}
+use Rattle.model.specs.Answers.{report, writtenReport, chargeReport}
 use Rattle.model.specs.Bytes.{Bytes, body}
 use Rattle.model.specs.Layout.{planOf, statementCount, nodeCount}
 use Rattle.model.specs.Nodes.{nodeRegion}
 use Rattle.model.specs.Verdict.{verdict}
-use Rattle.model.specs.DataSets.{dataOf, pieces, size, dataCheck}
+use Rattle.model.specs.DataSets.{dataOf, pieces, size}
 use Rattle.model.specs.Membership.{member}
 use Rattle.model.specs.Words.{holds}
-use Rattle.model.specs.Evaluation.{judgement, evaluation, wordsAfter}
-use Rattle.model.specs.AcceptedPlans.{Facts, Limits}
-use Rattle.model.specs.LoopRelations.{SymbolsBefore}
+use Rattle.model.specs.Evaluation.{evaluation, wordsAfter}
+use Rattle.model.specs.LoopRelations.{SymbolsBefore, NodeRegion}
 use Rattle.model.specs.PlainPlan.{WellFormed, Parallelizable, Licensed, Concluded}
 use Rattle.model.specs.PlainData.{Fits}
-use Rattle.model.specs.GivenWhen.{PlanGivenWhen, EvaluationGivenWhen, ExplanationGivenWhen}
+use Rattle.model.specs.GivenWhen.{PlanGivenWhen, EvaluationGivenWhen, ExplanationGivenWhen, ChargeGivenWhen}
 use Rattle.model.specs.RefusalOrder.{turn, Earlier}
 use Rattle.model.specs.PlainSets.{OperatorSets, DefinedSets}
 use Rattle.model.specs.declared.Question.{Question}
 use Rattle.model.specs.Provenance.{explanation, nodesAfter, elementsAfter}
 use Rattle.model.specs.Grounds.{Grounds, Explainable}
+use Rattle.model.specs.declared.Transfer.{Transfer}
+use Rattle.model.specs.Transfers.{transferOnes, charge}
+use Rattle.model.specs.Fetches.{Chargeable, Fetched, Numbered}
 use Rattle.model.specs.Legal.{Legal}
 use Rattle.model.specs.Undisturbed.{Undisturbed}
 use Rattle.model.specs.declared.Refusal.{Refusal}
 use Rattle.model.specs.declared.Answer.{Answer}
-use Rattle.model.specs.declared.Outcome.the-variants.{Pass}
 use Rattle.model.specs.declared.Answer.the-variants.{Accepted, Refused}
 use Rattle.model.specs.declared.Written.{Written}
 use Rattle.model.specs.declared.Written.the-variants as written
+use Rattle.model.specs.declared.Charge.{Charge}
+use Rattle.model.specs.declared.Charge.the-variants as charge
 
 -- an answer is an acceptance
 abbrev pub Accepts : Answer → Type 0
@@ -99,22 +102,6 @@ pub record EvaluationPromise (p d : Bytes) (old new : List ℕ) (r : Answer) : T
   -- "No iteration disturbs another", over this data set
   pub undisturbed : Accepts r → Undisturbed p d
 
--- what is known of a plan and a data set that were accepted together
-pub record AcceptedInputs (p d : Bytes) : Type 0 where
-  pub facts : Facts (planOf p)
-  pub limits : Limits (planOf p)
-  pub fits : dataCheck (planOf p) d ≡ Pass
-
--- judging plan p and data set d into words enough for every plan, which held `old`, answers r and leaves `new`
-pub record JudgementPromise (p d : Bytes) (old new : List ℕ) (r : Answer) : Type 0 where
-  -- the words lent play no part: Narrow is never given
-  pub answer : report r ≡ report (judgement p d)
-  -- otherwise it is evaluating: answer, words, sets and demand 3
-  pub evaluates : EvaluationPromise p d old new r
-  pub inputs : Accepts r → AcceptedInputs p d
-  -- there are as many words as before
-  pub room : length new ≡ length old
-
 -- an answer says that a list was written
 abbrev pub Writes : Written → Type 0
 Writes r = (n : ℕ) × (r ≡ written.Length n)
@@ -158,3 +145,48 @@ pub record ExplanationPromise (p d : Bytes) (q : Question) (oldNodes newNodes ol
       (n : ℕ) → r ≡ written.Length n → (sets : ℕ → ℕ → ℕ → Bool) → DefinedSets (planOf p) (dataOf d) sets →
       (m : ℕ) (nodes elements : ℕ → ℕ) → Grounds (planOf p) (dataOf d) (λ j i e. Is (sets j i e)) q m nodes elements →
       (m ≡ n) × ((k : ℕ) → k < n → (nodes k ≡ getD newNodes k 0) × (elements k ≡ getD newElements k 0))
+
+-- an answer is a charge
+abbrev pub Charges : Charge → Type 0
+Charges r = (n cents remainder : ℕ) × (r ≡ charge.Charged n cents remainder)
+
+-- what the three numbers of a charge say
+pub record ChargeMeans (p d : Bytes) (t : Transfer) (n cents remainder : ℕ) : Type 0 where
+  -- "count the elements of each accessed piece that the same owned piece lacks, and add over the pieces": n is their number, of the sets
+  -- that the operators define
+  pub counted :
+      (sets : ℕ → ℕ → ℕ → Bool) → DefinedSets (planOf p) (dataOf d) sets →
+      Numbered (Fetched (planOf p) (dataOf d) (λ j i e. Is (sets j i e)) t) n
+  -- and no other number is
+  pub only-count :
+      (sets : ℕ → ℕ → ℕ → Bool) → DefinedSets (planOf p) (dataOf d) sets →
+      (m : ℕ) → Numbered (Fetched (planOf p) (dataOf d) (λ j i e. Is (sets j i e)) t) m → m ≡ n
+  -- "The count is the number of one bits in the words concerned": those that evaluating leaves, whatever they held
+  pub one-bits :
+      (old new : List ℕ) (a : Answer) → EvaluationPromise p d old new a → Accepts a →
+      n ≡ transferOnes new (pieces (dataOf d)) (t .accessed) (t .owned)
+  -- "count times price, divided by 1,000: whole cents, and the exact remainder"
+  pub exact : cents * 1000 + remainder ≡ n * t .price
+  pub below-a-cent : remainder < 1000
+  -- nothing is charged for exactly when each accessed piece is contained in the owned one
+  pub contained :
+      (sets : ℕ → ℕ → ℕ → Bool) → DefinedSets (planOf p) (dataOf d) sets →
+      (n ≡ 0) ↔ ((i e : ℕ) → i < pieces (dataOf d) → e < 512 → Is (sets (t .accessed) i e) → Is (sets (t .owned) i e))
+  -- at most every element of the region in every piece
+  pub most : (r : ℕ) → NodeRegion (planOf p) (t .accessed) r → n ≤ pieces (dataOf d) * size (dataOf d) r
+
+-- charging, by plan p and data set d, for t answers r
+pub record ChargePromise (p d : Bytes) (t : Transfer) (r : Charge) : Type 0 where
+  -- number, place, count, cents and remainder are the definition's
+  pub answer : chargeReport r ≡ chargeReport (charge p d t)
+  -- a charge is made exactly when the plan is accepted, the data set fits, and nodes and price are chargeable
+  pub exactly :
+      Charges r ↔ (WellFormed p × Parallelizable p × Licensed p × Concluded p × Fits (planOf p) d × Chargeable (planOf p) t)
+  -- a refusal holds as the table says
+  pub refused : (s : Refusal) → r ≡ charge.Refused s → ChargeGivenWhen p d t (chargeReport r .number) (chargeReport r .place)
+  -- "The first met is given"
+  pub first :
+      (s : Refusal) → r ≡ charge.Refused s → (number place : ℕ) →
+      Earlier (turn number place) (turn (chargeReport r .number) (chargeReport r .place)) → ChargeGivenWhen p d t number place → ⊥
+  -- its three numbers are the charge
+  pub means : (n cents remainder : ℕ) → r ≡ charge.Charged n cents remainder → ChargeMeans p d t n cents remainder

@@ -1,5 +1,5 @@
 -- "Order: 1 for empty, 2; per section 1 then 4; 3; records by section, at each 5, 6, 7; 8 after section 4; 9 before section 6; at each
--- step 5, then 10; 11 by symbol; 12; 13; 14; 15. The first met is given." 16 is "after 14, before 15", the lowest place first.
+-- step 5, then 10; 11 by symbol; 12; 13; 14; 15. The first met is given." 16 is "after 14, before 15", 17 "after 14", the lowest place first.
 use Prim.Native.Nat.{ℕ, _*_, _/_, _%_, _<_}
 use mathlib.Core.Path.{_≡_}
 use mathlib.Core.List.{List, [], _∷_}
@@ -49,6 +49,8 @@ turns =
     ∷ (λ place. turnAt 110 0 0)
     -- 16 "place 1, 2, 3 or 4, the lowest; after 14, before 15"
     ∷ (λ place. turnAt 105 place 0)
+    -- 17 "place 1 .. 2 .. 3; the lowest is given, after 14"
+    ∷ (λ place. turnAt 106 place 0)
     ∷ []
 
 -- the turn of a refusal of this number at this place

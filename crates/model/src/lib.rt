@@ -18,6 +18,7 @@ pub enum Refusal {
     InvalidPartition(usize), // 14 Untrue: the supplied partition
     OutputTooSmall(usize), // 15 Narrow: the length needed
     NotFound(usize), // 16 Absent: 1 the node, 2 the piece, 3 the element does not exist, 4 the piece lacks the element
+    InvalidCharge(usize), // 17 Unpriced: 1 a node does not exist, 2 the two differ in region, 3 the price is too high
 }
 
 pub enum Answer {
@@ -32,6 +33,16 @@ pub enum Answer {
 // What an entry point that writes a list says: how long the list is.
 pub enum Written {
     Length(usize),
+    Refused(Refusal),
+}
+
+// What charging says: how many elements are fetched, and their price in whole cents and thousandths of a cent.
+pub enum Charge {
+    Charged {
+        count: usize,
+        cents: usize,
+        remainder: usize,
+    },
     Refused(Refusal),
 }
 
@@ -51,6 +62,15 @@ pub struct WrittenReport {
     pub length: usize,
 }
 
+// What a charge tells: number and place of a refusal, 0 and 0 where it was made; its three numbers, 0 on refusal.
+pub struct ChargeReport {
+    pub number: usize,
+    pub place: usize,
+    pub count: usize,
+    pub cents: usize,
+    pub remainder: usize,
+}
+
 // "Given node, piece and element": why does this piece of this node hold this element?
 pub struct Question {
     pub node: usize,
@@ -62,6 +82,13 @@ pub struct Question {
 pub struct Pair {
     pub node: usize,
     pub element: usize,
+}
+
+// What is to be charged: "a node for what is accessed, a node for what is owned and a price in cents per thousand elements".
+pub struct Transfer {
+    pub accessed: usize,
+    pub owned: usize,
+    pub price: usize,
 }
 
 // What one check of several says.

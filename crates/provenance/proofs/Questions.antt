@@ -2,7 +2,7 @@
 use Prim.Native.Nat.{ℕ, _+_, _*_, _≤_, _<_}
 use mathlib.Core.Path.{_≡_, refl, sym, ap, _∙_}
 use mathlib.Core.Logic.{_⊎_, inl, inr}
-use mathlib.Core.Bool.{Bool, false}
+use mathlib.Core.Bool.{false}
 use mathlib.Core.List.{List}
 use native.Mathlib.Omega.{arith}
 use lib.ListN.{length}
@@ -27,36 +27,31 @@ use Rattle.model.proofs.Fitting.{Fit}
 use Rattle.model.proofs.NodeSets.{region-small}
 use Rattle.evaluate.specs.Words.{pieceFilled}
 use Rattle.evaluate.proofs.OnePiece.{piece-holds, piece-room}
-use Rattle.model.proofs.Tests.{falsum, both, pair, less, less!, most, most!, fails, refuted}
-use Rattle.model.proofs.Outcomes.{then-assoc, then-pass, require-pass, required}
+use Rattle.model.proofs.Tests.{falsum, both, pair, less, less!, most, most! }
+use Rattle.model.proofs.Outcomes.{then-assoc, then-pass, require-pass, required, require-fails}
 use Rattle.primitives.proofs.Stages.{stage-passed, stage-refused}
 use Rattle.provenance.specs.declared.chain.Chain.{Chain}
 use Rattle.provenance.specs.Chain.{ChainOf, ChainWritten}
 use Rattle.provenance.specs.Question.{existenceCheck, Answered}
 
--- a test that fails is refused
-failed : {t : Bool} {r : Refusal} → (Is t → ⊥) → require t r ≡ Refuse r
-unfolding require
-failed n = rw (fails (refuted n), require)
-
 module _ (P : Plan) (D : DataSet) (q : Question) where
   -- node, piece and element, one after the other
   pub no-node : nodeCount P ≤ q .node → Refuse (NotFound 1) ≡ existenceCheck P D q
-  no-node le = stage-refused _ refl refl (failed (λ h. let l = less h in omega arith))
+  no-node le = stage-refused _ refl refl (require-fails (λ h. let l = less h in omega arith))
 
   module _ (node : q .node < nodeCount P) where
     past-node : existenceCheck P D q ≡ (require (q .piece <? pieces D) (NotFound 2) then require (q .element <? size D (nodeRegion P (q .node))) (NotFound 3))
     past-node = stage-passed _ refl refl (required _ _ (less! node))
 
     pub no-piece : pieces D ≤ q .piece → Refuse (NotFound 2) ≡ existenceCheck P D q
-    no-piece le = stage-refused _ past-node refl (failed (λ h. let l = less h in omega arith))
+    no-piece le = stage-refused _ past-node refl (require-fails (λ h. let l = less h in omega arith))
 
     module _ (piece : q .piece < pieces D) where
       past-piece : existenceCheck P D q ≡ require (q .element <? size D (nodeRegion P (q .node))) (NotFound 3)
       past-piece = stage-passed _ past-node refl (required _ _ (less! piece))
 
       pub no-element : size D (nodeRegion P (q .node)) ≤ q .element → Refuse (NotFound 3) ≡ existenceCheck P D q
-      no-element le = sym (past-piece ∙ failed (λ h. let l = less h in omega arith))
+      no-element le = sym (past-piece ∙ require-fails (λ h. let l = less h in omega arith))
 
       pub all-exist : q .element < size D (nodeRegion P (q .node)) → Pass ≡ existenceCheck P D q
       all-exist lt = sym (past-piece ∙ required _ _ (less! lt))
@@ -86,11 +81,11 @@ module _ (P : Plan) (D : DataSet) (q : Question) where
     pub room : (q .node + 1) * 8 ≤ length words
     pub held : (j e : ℕ) → j ≤ q .node → e < 512 → holds words (j * 8) e ≡ member P D j (q .piece) e
 
-  pub filled : {words : List ℕ} (old : List ℕ) → words ≡ pieceFilled P D (q .piece) (q .node + 1) old → (q .node + 1) * 8 ≤ length old → Filled words
-  filled old is enough =
+  pub filled : {words : List ℕ} (old : List ℕ) → q .node < 48 → words ≡ pieceFilled P D (q .piece) (q .node + 1) old → (q .node + 1) * 8 ≤ length old → Filled words
+  filled old few is enough =
       record {
         room = omega (arith, ap length is, piece-room P D (q .piece) (q .node + 1) old);
-        held = λ j e lj le. rw is (piece-holds P D (q .piece) (q .node + 1) old enough j e (omega arith) le);
+        held = λ j e lj le. rw is (piece-holds P D (q .piece) (q .node + 1) old (omega arith) enough j e (omega arith) le);
       }
 
 -- the stages of an answer
@@ -126,7 +121,7 @@ module _ (p d : Bytes) (q : Question) (oldNodes oldElements : List ℕ) where
     past-existence = stage-passed _ in-stages checked passed
 
     pub no-member : member P D (q .node) (q .piece) (q .element) ≡ false → Refuse (NotFound 4) ≡ whole
-    no-member n = stage-refused _ past-existence refl (failed (λ h. falsum (sym n ∙ h)))
+    no-member n = stage-refused _ past-existence refl (require-fails (λ h. falsum (sym n ∙ h)))
 
     -- it is a member
     module _ (holds : Is (member P D (q .node) (q .piece) (q .element))) {chain : Chain} (traced : ChainOf P D q chain) where
@@ -137,7 +132,7 @@ module _ (p d : Bytes) (q : Question) (oldNodes oldElements : List ℕ) where
       unfolding chainRoomCheck
       no-room short =
           let length-is = traced .length-is in
-          sym (past-member ∙ rw (← length-is) (failed (λ h.
+          sym (past-member ∙ rw (← length-is) (require-fails (λ h.
           let (a, b) = both h in
           let nodes = most a in
           let elements = most b in

@@ -4,3 +4,4 @@ pub mod NodePieces
 pub mod NodeOperators
 pub mod NodeFill
 pub mod AllNodes
+pub mod NeededNodes

@@ -1,19 +1,20 @@
 -- What filling the words means: node by node, each from the sets that the words before it hold.
-use Prim.Native.Nat.{ℕ, _+_, _-_, _*_, _/_, _%_, _≤_, _<_}
+use Prim.Native.Nat.{ℕ, zero, suc, _+_, _-_, _*_, _/_, _%_, _≤_, _<_}
 use mathlib.Core.Path.{_≡_}
 use mathlib.Core.List.{List}
 use lib.ListN.{getD}
-use Rattle.model.specs.Tests.{_and_, _<?_}
+use Rattle.model.specs.Tests.{_and_, pick, _<?_}
 use Rattle.model.specs.Bytes.{Bytes}
 use Rattle.model.specs.Partitions.{Partition}
 use Rattle.model.specs.Layout.{Plan, mapCount, suppliedCount, nodeCount}
 use Rattle.model.specs.Nodes.{nodeRegion}
 use Rattle.model.specs.DataSets.{DataSet, dataOf, pieces, size, entryStart, memberStart, dataCheck}
 use Rattle.model.specs.Membership.{nodeSets, member}
-use Rattle.model.specs.Words.{holds, word, store}
+use Rattle.model.specs.Words.{bit, holds, word, store}
 use Rattle.model.specs.AcceptedPlans.{Facts, Limits}
 use Rattle.model.specs.declared.Outcome.the-variants.{Pass}
 use Rattle.subregions.specs.declared.Span.{Span}
+use Rattle.subregions.specs.Needed.{OperandsNeeded}
 use Rattle.subregions.specs.Pieces.{pieceWords, piecesFrom}
 
 module _ (P : Plan) (D : DataSet) where
@@ -31,13 +32,21 @@ module _ (P : Plan) (D : DataSet) where
     unfoldable pub spanWord : ℕ → ℕ
     spanWord w = word (member P D (w / 8 / span .count) (span .first + w / 8 % span .count)) (w % 8)
 
-    -- the words once all its nodes are filled
+    -- the words once the first so many nodes are passed: those that are needed are filled
+    unfoldable pub filledUpTo : List ℕ → ℕ → List ℕ
+    filledUpTo old zero = old
+    filledUpTo old (suc j) =
+        let before = filledUpTo old j in
+        pick (bit (span .needed) j) (store before (j * span .count * 8) (span .count * 8) (λ w. spanWord (j * span .count * 8 + w))) before
+
+    -- the words once all its nodes are
     unfoldable pub spanFilled : List ℕ → List ℕ
-    spanFilled old = store old 0 (span .nodes * span .count * 8) spanWord
+    spanFilled old = filledUpTo old (span .nodes)
 
     -- the span's nodes and pieces are the plan's and the data set's, and so many words are enough for them
     pub record SpanFits (lent : ℕ) : Type 0 where
       pub nodes-listed : span .nodes ≤ nodeCount P
+      pub operands-needed : OperandsNeeded P (span .nodes) (span .needed)
       pub pieces-are : span .pieces ≡ pieces D
       pub pieces-listed : span .first + span .count ≤ span .pieces
       pub enough : span .nodes * span .count * 8 ≤ lent

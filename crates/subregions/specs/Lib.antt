@@ -1,3 +1,4 @@
 pub mod Operators
 pub mod Pieces
+pub mod Needed
 pub mod Fill

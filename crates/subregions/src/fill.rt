@@ -1,5 +1,6 @@
 // Fills the lent words, node by node.
 use crate::Span;
+use crate::needed::has_bit;
 use crate::pieces::fill_difference;
 use crate::pieces::fill_equal;
 use crate::pieces::fill_image;
@@ -72,7 +73,7 @@ pub fn node_sizes(sizes: &[u8], node_regions: &[u8], count: usize) -> [usize; 48
     table
 }
 
-// Fills the span's nodes in order.
+// Fills the span's nodes in order, those that are needed.
 pub fn fill_nodes(
     words: &mut [u64],
     nodes: &[u8],
@@ -91,17 +92,19 @@ pub fn fill_nodes(
     let sizes_of_nodes = node_sizes(sizes, node_regions, count);
     let mut j = 0;
     while j < count {
-        fill_node(
-            words,
-            nodes,
-            entries,
-            members,
-            entry_starts,
-            member_starts,
-            &sizes_of_nodes,
-            span,
-            j,
-        );
+        if has_bit(span.needed, j) {
+            fill_node(
+                words,
+                nodes,
+                entries,
+                members,
+                entry_starts,
+                member_starts,
+                &sizes_of_nodes,
+                span,
+                j,
+            );
+        }
         j += 1;
     }
 }

@@ -4,6 +4,8 @@
 use std::error::Error;
 use std::fmt::{self, Display, Formatter};
 
+use crate::HIGHEST_PRICE;
+
 /// The enum of refusals, their numbers and places both ways, and their texts, from one table:
 /// `number => Name(place): "text", ..;`, or without `(place)` where the place is 0.
 macro_rules! refusals {
@@ -93,6 +95,8 @@ refusals! {
     15 => OutputTooSmall(length): "too little room is lent, a length of {} is needed", length;
     /// 16 Absent: the node (1), piece (2) or element (3) does not exist, or the element is not in the piece (4).
     16 => NotFound(what): "not found, {}", absence_in_words(what);
+    /// 17 Unpriced: a node does not exist (1), the two differ in region (2), or the price is too high (3).
+    17 => InvalidCharge(what): "cannot be charged, {}", obstacle_in_words(what);
 }
 
 /// The names of a plan's sections, from section 1 on.
@@ -130,10 +134,20 @@ fn absence_in_words(what: u64) -> String {
     }
 }
 
+/// What stands against a charge.
+fn obstacle_in_words(what: u64) -> String {
+    match what {
+        1 => "a node does not exist".to_string(),
+        2 => "the two nodes are of different regions".to_string(),
+        3 => format!("the price is above {HIGHEST_PRICE}"),
+        _ => format!("what place {what} stands for"),
+    }
+}
+
 impl Error for Refusal {}
 
 impl Refusal {
-    /// The number the format gives this refusal, 1 to 16.
+    /// The number the format gives this refusal, 1 to 17.
     pub fn number(self) -> u8 {
         self.number_and_place().0
     }
@@ -260,6 +274,61 @@ impl From<Refusal> for Written {
     }
 }
 
+/// What a charge for a transfer says.
+#[derive(Clone, Copy, Debug, PartialEq, Eq)]
+pub enum Charge {
+    /// What is to be fetched, and what it costs: count × price is cents × 1,000 + remainder.
+    Charged {
+        /// How many elements the accessed pieces have that the same owned pieces lack, over all pieces.
+        count: u16,
+        /// Whole cents, below 2 to the power of 24.
+        cents: u32,
+        /// What is left, in thousandths of a cent.
+        remainder: u16,
+    },
+    /// Refused, and nothing is charged.
+    Refused(Refusal),
+}
+
+impl Charge {
+    /// The packed answer: number in the low 8 bits, above them the place or, for number 0, the count in 16 bits,
+    /// the cents in 24 and the remainder in 16.
+    pub fn pack(self) -> u64 {
+        match self {
+            Charge::Charged { count, cents, remainder } => {
+                u64::from(count) << 8 | u64::from(cents) << 24 | u64::from(remainder) << 48
+            }
+            Charge::Refused(refusal) => refusal.pack(),
+        }
+    }
+
+    /// The answer a packed value stands for; none if it stands for none.
+    pub fn unpack(packed: u64) -> Option<Charge> {
+        match packed.to_le_bytes() {
+            [0, a, b, c, d, e, f, g] => Some(Charge::Charged {
+                count: u16::from_le_bytes([a, b]),
+                cents: u32::from_le_bytes([c, d, e, 0]),
+                remainder: u16::from_le_bytes([f, g]),
+            }),
+            _ => Refusal::unpack(packed).map(Charge::Refused),
+        }
+    }
+
+    /// 0 for a charge, else the refusal's number.
+    pub fn number(self) -> u8 {
+        match self {
+            Charge::Charged { .. } => 0,
+            Charge::Refused(refusal) => refusal.number(),
+        }
+    }
+}
+
+impl From<Refusal> for Charge {
+    fn from(refusal: Refusal) -> Charge {
+        Charge::Refused(refusal)
+    }
+}
+
 #[cfg(test)]
 mod tests {
     use super::*;
@@ -273,9 +342,15 @@ mod tests {
             for place in [0, 1, 7, 2047, 8191] {
                 let Some(refusal) = Refusal::from_parts(number, place) else { continue };
                 let packed = place << 8 | u64::from(number);
-                assert_eq!([Answer::from(refusal).pack(), Written::from(refusal).pack()], [packed; 2]);
+                let packs = [
+                    Answer::from(refusal).pack(),
+                    Written::from(refusal).pack(),
+                    Charge::from(refusal).pack(),
+                ];
+                assert_eq!(packs, [packed; 3]);
                 assert_eq!(Answer::unpack(packed), Some(Answer::Refused(refusal)));
                 assert_eq!(Written::unpack(packed), Some(Written::Refused(refusal)));
+                assert_eq!(Charge::unpack(packed), Some(Charge::Refused(refusal)));
             }
         }
     }
@@ -293,8 +368,25 @@ mod tests {
     }
 
     #[test]
+    fn every_charge_survives_packing() {
+        for (count, cents, remainder) in [
+            (0, 0, 0),
+            (1, 2, 3),
+            (8192, 8_192_000, 0),
+            (8191, 8_190_991, 809),
+            (u16::MAX, (1 << 24) - 1, u16::MAX),
+        ] {
+            let due = Charge::Charged { count, cents, remainder };
+            let packed = u64::from(count) << 8 | u64::from(cents) << 24 | u64::from(remainder) << 48;
+            assert_eq!((due.pack(), Charge::unpack(packed), due.number()), (packed, Some(due), 0));
+        }
+        assert_eq!(Charge::from(Refusal::InvalidCharge(3)).number(), 17);
+    }
+
+    #[test]
     fn refusals_are_numbered_from_1_without_a_gap() {
         assert!(Refusal::NUMBERS.iter().copied().eq(1..=Refusal::NUMBERS.len() as u8));
+        assert_eq!(Refusal::NUMBERS.len(), 17);
         assert!(Refusal::NUMBERS.iter().all(|&number| Refusal::from_parts(number, 0).is_some()));
     }
 
@@ -302,9 +394,10 @@ mod tests {
     fn values_that_stand_for_nothing_are_not_read() {
         let beyond = Refusal::NUMBERS.len() as u64 + 1;
         for packed in [beyond, 254, 255, 2 | 1 << 8, 12 | 1 << 8] {
-            assert_eq!((Answer::unpack(packed), Written::unpack(packed)), (None, None), "{packed:#x}");
+            let read = (Answer::unpack(packed), Written::unpack(packed), Charge::unpack(packed));
+            assert_eq!(read, (None, None, None), "{packed:#x}");
         }
-        // Of three counts, but not of a length.
+        // Of three counts of a plan, but not of a length or a charge.
         for packed in [1 << 32, 1 << 63] {
             assert_eq!(Answer::unpack(packed), None, "{packed:#x}");
         }
@@ -350,6 +443,7 @@ mod tests {
             ),
             (Refusal::OutputTooSmall(32), "too little room is lent, a length of 32 is needed"),
             (Refusal::NotFound(1), "not found, the node does not exist"),
+            (Refusal::InvalidCharge(1), "cannot be charged, a node does not exist"),
         ];
         assert!(texts.iter().map(|(refusal, _)| refusal.number()).eq(Refusal::NUMBERS.iter().copied()));
         for (refusal, text) in texts {
@@ -375,6 +469,14 @@ mod tests {
             (5, "what place 5 stands for"),
         ] {
             assert_eq!(Refusal::NotFound(what).to_string(), format!("refused 16: not found, {text}"));
+        }
+        for (what, text) in [
+            (2, "the two nodes are of different regions"),
+            (3, "the price is above 1000000"),
+            (4, "what place 4 stands for"),
+        ] {
+            let refused = format!("refused 17: cannot be charged, {text}");
+            assert_eq!(Refusal::InvalidCharge(what).to_string(), refused);
         }
     }
 

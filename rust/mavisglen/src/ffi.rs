@@ -1,7 +1,7 @@
-//! The only unsafe code: the three calls into the verified library.
+//! The only unsafe code: the four calls into the verified library.
 #![allow(unsafe_code)]
 
-use crate::answer::{Answer, Written};
+use crate::answer::{Answer, Charge, Written};
 
 extern "C" {
     fn mavisglen_check(plan: *const u8, plan_len: usize) -> u64;
@@ -25,6 +25,15 @@ extern "C" {
         nodes_len: usize,
         elements: *mut u16,
         elements_len: usize,
+    ) -> u64;
+    fn mavisglen_charge(
+        plan: *const u8,
+        plan_len: usize,
+        data: *const u8,
+        data_len: usize,
+        accessed: usize,
+        owned: usize,
+        price: u64,
     ) -> u64;
 }
 
@@ -94,6 +103,20 @@ pub fn explain(
         )
     };
     read(packed, Written::unpack)
+}
+
+/// Judges a plan and a data set and, if both are accepted, charges for what is accessed and not owned, at a price in
+/// cents per thousand elements. Else gives one of the refusals 1 to 14; 17 if a node does not exist, the two are of
+/// different regions, or the price is above [`HIGHEST_PRICE`](crate::HIGHEST_PRICE).
+///
+/// Counted are the elements of each piece of the node `accessed` that the same piece of the node `owned` lacks; an
+/// element that several pieces lack is counted for each. Count times price, divided by 1,000, is the charge.
+pub fn charge(plan: &[u8], data: &[u8], accessed: usize, owned: usize, price: u64) -> Charge {
+    // SAFETY: each pointer and length are those of one live slice, only read.
+    let packed = unsafe {
+        mavisglen_charge(plan.as_ptr(), plan.len(), data.as_ptr(), data.len(), accessed, owned, price)
+    };
+    read(packed, Charge::unpack)
 }
 
 /// The verified library gives nothing but answers; a wrong file that is linked in its place might.

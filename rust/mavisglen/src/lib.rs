@@ -1,22 +1,23 @@
-//! Partition plans, checked, evaluated and explained by a verified library.
+//! Partition plans, checked, evaluated, explained and charged for by a verified library.
 //!
 //! A plan names regions, pointer maps, loops, partition expressions and the lemma steps that are said to show
 //! that the expressions serve the loops. `check` judges a plan without data; `evaluate` judges it with a data
-//! set and fills words with the subregions; `explain` writes why an element is in one of them. Every input,
-//! however damaged, gets an answer: an acceptance ([`Answer`]) or the length of what is written ([`Written`]), or
-//! one numbered [`Refusal`] with its place. The bytes of plans and data sets are described in the repository's
-//! `docs/FORMAT.md`.
+//! set and fills words with the subregions; `explain` writes why an element is in one of them; `charge` counts
+//! and prices what a task must fetch. Every input, however damaged, gets an answer: an acceptance ([`Answer`]),
+//! the length of what is written ([`Written`]) or a charge ([`Charge`]), or one numbered [`Refusal`] with its
+//! place. The bytes of plans and data sets are described in the repository's `docs/FORMAT.md`.
 //!
-//! The library is proved to answer as that page says; this crate hands slices to its three functions and reads
+//! The library is proved to answer as that page says; this crate hands slices to its four functions and reads
 //! their answers. The build links `libmavisglen.a`, made by `rt staticlib mavisglen`, from the repository's
 //! `target/staticlib` or from the folder named in `MAVISGLEN_LIB`. Without the feature `library`, which is on
-//! by default, nothing is linked and the three functions are left out.
+//! by default, nothing is linked and the four functions are left out.
 //!
 //! # Example
 //!
 //! ```
 //! # #[cfg(feature = "library")] {
-//! use mavisglen::{check, evaluate, explain, Answer, Refusal, Written, LONGEST_CHAIN, MOST_WORDS};
+//! use mavisglen::{charge, check, evaluate, explain, Answer, Charge, Refusal, Written};
+//! use mavisglen::{LONGEST_CHAIN, MOST_WORDS};
 //!
 //! // A plan that ends after its first byte. Printed, the refusal says what is wrong, and where.
 //! let Answer::Refused(refusal) = check(&[1]) else { panic!("accepted") };
@@ -34,16 +35,17 @@
 //!     1, 0, 0, 0, // LOAD its pointer
 //!     4, 1, 0, 0, // READ where it points
 //!     6, 0, 1, 0, // REDUCE into the element, by adding
-//!     0, 8, // two nodes:
+//!     0, 12, // three nodes:
 //!     1, 0, 0, 0, // node 0: region 0 in equal pieces
 //!     5, 0, 0, 0, // node 1: the image of node 0 under the map
+//!     1, 1, 0, 0, // node 2: region 1 in equal pieces
 //!     0, 4, 0, 0, 1, 0, // the nodes of FOR, LOAD, READ and REDUCE
 //!     0, 15, // three steps:
 //!     2, 0, 0, 0, 0, // equal pieces are complete
 //!     5, 0, 0, 0, 0, // node 0 is contained in itself
 //!     5, 1, 1, 0, 0, // and so is node 1
 //! ];
-//! assert_eq!(check(&plan), Answer::Accepted { symbols: 4, nodes: 2, steps: 3 });
+//! assert_eq!(check(&plan), Answer::Accepted { symbols: 4, nodes: 3, steps: 3 });
 //!
 //! // Two pieces; five elements in region 0 that point to three in region 1.
 //! let data = [
@@ -74,6 +76,15 @@
 //! // Element 0 it does not read.
 //! let answer = explain(&plan, &data, 1, 1, 0, &mut nodes, &mut elements);
 //! assert_eq!(answer, Written::Refused(Refusal::NotFound(4)));
+//!
+//! // Where the pieces own what node 2 gives them, {0, 1} and {2}, piece 0 must fetch element 2 and piece 1 element 1.
+//! // At 1,250 cents per thousand elements that is two and a half cents.
+//! match charge(&plan, &data, 1, 2, 1250) {
+//!     Charge::Charged { count, cents, remainder } => assert_eq!((count, cents, remainder), (2, 2, 500)),
+//!     Charge::Refused(refusal) => panic!("{refusal}"),
+//! }
+//! // Node 0 is of another region.
+//! assert_eq!(charge(&plan, &data, 1, 0, 1250), Charge::Refused(Refusal::InvalidCharge(2)));
 //! # }
 //! ```
 #![deny(missing_docs)]
@@ -83,12 +94,15 @@ mod answer;
 #[cfg(feature = "library")]
 mod ffi;
 
-pub use answer::{Answer, Refusal, Written};
+pub use answer::{Answer, Charge, Refusal, Written};
 #[cfg(feature = "library")]
-pub use ffi::{check, evaluate, explain};
+pub use ffi::{charge, check, evaluate, explain};
 
 /// As many words as the largest evaluation fills: 48 nodes × 16 pieces × 8 words.
 pub const MOST_WORDS: usize = 6144;
 
 /// As many pairs as the longest chain has: one for each of 48 nodes.
 pub const LONGEST_CHAIN: usize = 48;
+
+/// The highest price that is charged, in cents per thousand elements.
+pub const HIGHEST_PRICE: u64 = 1_000_000;

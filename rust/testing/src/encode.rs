@@ -50,6 +50,8 @@ pub mod limit {
     pub const STEPS: usize = 128;
     pub const PIECES: usize = 16;
     pub const SIZE: usize = 512;
+    /// In cents per thousand elements.
+    pub const PRICE: u64 = 1_000_000;
 }
 
 /// The records of a plan, section by section.

@@ -1,7 +1,7 @@
-//! The filed examples, and one like them of a private part.
+//! The filed examples, one like them of a private part, and one of every operator.
 #![forbid(unsafe_code)]
 
-use crate::encode::{node, statement, DataSet, Plan};
+use crate::encode::{node, statement, DataSet, Plan, NONE};
 
 /// Plan A: a loop that reads through a pointer, over an equal partition.
 pub fn plan_a() -> Plan {
@@ -53,7 +53,7 @@ pub fn private_part(of: u8) -> [[u8; 4]; 5] {
     ]
 }
 
-/// All of them, each for data D.
+/// All of these, each for data D.
 pub fn plans() -> [Plan; 3] {
     [plan_a(), plan_b(), plan_with_private_part()]
 }
@@ -61,4 +61,28 @@ pub fn plans() -> [Plan; 3] {
 /// Data D: five elements that point to three, in two pieces.
 pub fn data_d() -> DataSet {
     DataSet { pieces: 2, sizes: vec![5, 3], maps: vec![vec![0, 0, 2, 1, 2]], supplied: vec![] }
+}
+
+/// A node of each operator. Six elements in two pieces; supplied are {0, 3, 5} and {2, 3}. The map leads 0, 1 and 2 to
+/// 1 and 3 and 5 to 4.
+pub fn every_operator() -> (Plan, DataSet) {
+    let nodes = vec![
+        [node::EQUAL, 0, 0, 0],        // {0, 1, 2}, {3, 4, 5}
+        [node::SUPPLIED, 0, 0, 0],     // {0, 3, 5}, {2, 3}
+        [node::UNION, 0, 1, 0],        // {0, 1, 2, 3, 5}, {2, 3, 4, 5}
+        [node::INTERSECTION, 1, 2, 0], // {0, 3, 5}, {2, 3}
+        [node::DIFFERENCE, 2, 0, 0],   // {3, 5}, {2}
+        [node::IMAGE, 2, 0, 0],        // {1, 4}, {1, 4}
+        [node::UNION, 4, 5, 0],        // {1, 3, 4, 5}, {1, 2, 4}
+        [node::PREIMAGE, 6, 0, 0],     // {0, 1, 2, 3, 5}, {0, 1, 2, 3, 5}
+    ];
+    let has = |members: &[usize]| (0..6).map(|element| members.contains(&element)).collect();
+    let data = DataSet {
+        pieces: 2,
+        sizes: vec![6],
+        maps: vec![vec![1, 1, 1, 4, NONE, 4]],
+        supplied: vec![vec![has(&[0, 3, 5]), has(&[2, 3])]],
+    };
+    let (maps, supplied) = (vec![[0, 0, 0]], vec![[0, 0]]);
+    (Plan { regions: vec![[1]], maps, supplied, nodes, ..Plan::default() }, data)
 }

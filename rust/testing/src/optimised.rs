@@ -3,15 +3,16 @@
 //! and is itself tested against the reference.
 #![forbid(unsafe_code)]
 
+mod charging;
 mod evaluation;
 mod explanation;
 mod loops;
 mod plan;
 mod steps;
 
-use mavisglen::{Answer, Refusal, Written};
+use mavisglen::{Answer, Charge, Refusal, Written};
 
-use crate::question::Question;
+use crate::question::{Question, Transfer};
 
 /// Judges a plan.
 pub fn check(plan: &[u8]) -> Answer {
@@ -47,6 +48,11 @@ pub fn explain(
         Ok(length) => Written::Length(length),
         Err(refusal) => Written::Refused(refusal),
     }
+}
+
+/// Judges a plan, a data set and what is charged for and, if all are accepted, charges.
+pub fn charge(plan: &[u8], data: &[u8], transfer: Transfer) -> Charge {
+    plan::read(plan).and_then(|plan| charging::charge(&plan, data, transfer)).unwrap_or_else(Charge::Refused)
 }
 
 /// The body of a section and what follows it.

@@ -2,6 +2,8 @@
 //! over plain sets. Clarity comes before speed.
 #![forbid(unsafe_code)]
 
+pub mod audit;
+pub mod charge;
 pub mod data;
 pub mod evaluation;
 pub mod explain;
@@ -18,10 +20,10 @@ pub mod statements;
 pub mod steps;
 pub mod undisturbed;
 
-use mavisglen::{Answer, Refusal, Written};
+use mavisglen::{Answer, Charge, Refusal, Written};
 
 use crate::encode::PIECE_WORDS;
-use crate::question::Question;
+use crate::question::{Question, Transfer};
 use flaw::{Flaw, Limit};
 use plan::Plan;
 
@@ -50,6 +52,11 @@ pub fn explain(
     elements: &mut [u16],
 ) -> Written {
     Reference::default().explain(plan, data, question, nodes, elements)
+}
+
+/// Judges a plan, a data set and what is charged for and, if all are accepted, charges.
+pub fn charge(plan: &[u8], data: &[u8], transfer: Transfer) -> Charge {
+    Reference::default().charge(plan, data, transfer)
 }
 
 impl Reference {

@@ -3,6 +3,8 @@
 
 use std::iter;
 
+use mavisglen::Charge;
+
 use crate::encode::{flag, limit, node, statement, DataSet, Plan};
 use crate::filed;
 use crate::generate::builder::Builder;
@@ -10,7 +12,7 @@ use crate::generate::data;
 use crate::generate::lemma::LEMMAS;
 use crate::generate::loops::Loop;
 use crate::generate::program::Omission;
-use crate::question::Question;
+use crate::question::{Question, Transfer};
 use crate::random::Random;
 use crate::reference::Reference;
 
@@ -93,6 +95,20 @@ impl Workload {
         let deepest = (0..evaluated.plan.nodes.len()).rev().find_map(deepest_in);
         deepest.expect("some node of a workload has members")
     }
+
+    /// The last two nodes of one region, the later accessed and the other owned, at the highest price; the last node
+    /// against itself where no two are of one region.
+    pub fn last_transfer(&self) -> Billed {
+        let reference = Reference::default();
+        let plan = reference.checked_plan(&self.plan).expect("a workload's plan is accepted");
+        let region = |node: usize| plan.nodes[node].region;
+        let before = |node: usize| (0..node).rev().find(|&other| region(other) == region(node));
+        let last = plan.nodes.len() - 1;
+        let found = (0..=last).rev().find_map(|node| before(node).map(|other| (node, other)));
+        let (accessed, owned) = found.unwrap_or((last, last));
+        let transfer = Transfer { accessed, owned, price: limit::PRICE };
+        Billed { transfer, charge: reference.charge(&self.plan, &self.data, transfer) }
+    }
 }
 
 /// What is asked about a workload, and the length of the chain that explains it.
@@ -100,6 +116,13 @@ impl Workload {
 pub struct Asked {
     pub question: Question,
     pub length: usize,
+}
+
+/// What is charged for in a workload, and the charge.
+#[derive(Clone, Copy, Debug)]
+pub struct Billed {
+    pub transfer: Transfer,
+    pub charge: Charge,
 }
 
 /// The filed plan A over the filed data D.
@@ -280,7 +303,9 @@ mod tests {
             let mut words = vec![0; workload.words];
             let answer = reference::evaluate(&workload.plan, &workload.data, &mut words);
             assert!(answer.is_accepted(), "{}: {answer:?}", workload.name);
-            println!("{}: {answer:?}", workload.name);
+            let Billed { transfer, charge } = workload.last_transfer();
+            assert_eq!(charge.number(), 0, "{}: {transfer:?}", workload.name);
+            println!("{}: {answer:?}, {transfer:?}, {charge:?}", workload.name);
         }
     }
 

@@ -1,6 +1,6 @@
 //! The verified library against the reference. MAVISGLEN_CASES sets the
-//! number of random cases, and of random plans to explain, and
-//! MAVISGLEN_SEED the run.
+//! number of random cases, and of random plans to explain and to charge
+//! for, and MAVISGLEN_SEED the run.
 #![forbid(unsafe_code)]
 
 mod common;
@@ -33,13 +33,18 @@ fn random_cases_agree_and_keep_the_promise() {
 }
 
 #[test]
-fn random_requests_are_explained_alike() {
-    LIBRARY.explains_random_requests_alike(DEFAULT_INQUIRIES);
+fn random_requests_are_answered_alike() {
+    LIBRARY.answers_random_requests_alike(DEFAULT_INQUIRIES);
 }
 
 #[test]
 fn the_filed_examples_are_explained_alike() {
     LIBRARY.explains_the_filed_examples_alike();
+}
+
+#[test]
+fn the_filed_examples_are_charged_alike() {
+    LIBRARY.charges_the_filed_examples_alike();
 }
 
 #[test]

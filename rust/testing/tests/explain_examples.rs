@@ -2,8 +2,8 @@
 #![forbid(unsafe_code)]
 
 use mavisglen::{Refusal, Written};
-use mavisglen_testing::encode::{node, DataSet, Plan, NONE};
-use mavisglen_testing::filed::{data_d, plan_a, plan_b};
+use mavisglen_testing::encode::{DataSet, Plan};
+use mavisglen_testing::filed::{data_d, every_operator, plan_a, plan_b};
 use mavisglen_testing::question::Question;
 use mavisglen_testing::version::Version;
 
@@ -86,32 +86,9 @@ fn plan_b_is_explained() {
     explains_members(&plan_b(), &data_d(), &[3, 5, 3], &chains);
 }
 
-/// Six elements in two pieces; supplied are {0, 3, 5} and {2, 3}. The map leads 0, 1 and 2 to 1 and 3 and 5 to 4.
-fn set_operations() -> (Plan, DataSet) {
-    let nodes = vec![
-        [node::EQUAL, 0, 0, 0],        // {0, 1, 2}, {3, 4, 5}
-        [node::SUPPLIED, 0, 0, 0],     // {0, 3, 5}, {2, 3}
-        [node::UNION, 0, 1, 0],        // {0, 1, 2, 3, 5}, {2, 3, 4, 5}
-        [node::INTERSECTION, 1, 2, 0], // {0, 3, 5}, {2, 3}
-        [node::DIFFERENCE, 2, 0, 0],   // {3, 5}, {2}
-        [node::IMAGE, 2, 0, 0],        // {1, 4}, {1, 4}
-        [node::UNION, 4, 5, 0],        // {1, 3, 4, 5}, {1, 2, 4}
-        [node::PREIMAGE, 6, 0, 0],     // {0, 1, 2, 3, 5}, {0, 1, 2, 3, 5}
-    ];
-    let has = |members: &[usize]| (0..6).map(|element| members.contains(&element)).collect();
-    let data = DataSet {
-        pieces: 2,
-        sizes: vec![6],
-        maps: vec![vec![1, 1, 1, 4, NONE, 4]],
-        supplied: vec![vec![has(&[0, 3, 5]), has(&[2, 3])]],
-    };
-    let (maps, supplied) = (vec![[0, 0, 0]], vec![[0, 0]]);
-    (Plan { regions: vec![[1]], maps, supplied, nodes, ..Plan::default() }, data)
-}
-
 #[test]
 fn every_operator_is_explained() {
-    let (plan, data) = set_operations();
+    let (plan, data) = every_operator();
     let explanations: [Explanation; 13] = [
         // A union goes to its first operand where both have the element, and where its first has.
         ([2, 0, 0], &[(2, 0), (0, 0)]),

@@ -16,13 +16,18 @@ fn random_cases_agree() {
 }
 
 #[test]
-fn random_requests_are_explained_alike() {
-    OPTIMISED.explains_random_requests_alike(DEFAULT_INQUIRIES);
+fn random_requests_are_answered_alike() {
+    OPTIMISED.answers_random_requests_alike(DEFAULT_INQUIRIES);
 }
 
 #[test]
 fn the_filed_examples_are_explained_alike() {
     OPTIMISED.explains_the_filed_examples_alike();
+}
+
+#[test]
+fn the_filed_examples_are_charged_alike() {
+    OPTIMISED.charges_the_filed_examples_alike();
 }
 
 #[test]

@@ -6,11 +6,11 @@ use std::cell::RefCell;
 use std::hint::black_box;
 use std::time::{Duration, Instant};
 
-use mavisglen::{Written, LONGEST_CHAIN};
+use mavisglen::{Answer, Charge, Written, LONGEST_CHAIN};
 use mavisglen_testing::encode::limit;
 use mavisglen_testing::version::Version;
 use mavisglen_testing::workload::{
-    filed_example, largest_check, longest_chain, longest_loop, mixed, Asked, Mix, Workload,
+    filed_example, largest_check, longest_chain, longest_loop, mixed, Asked, Billed, Mix, Workload,
 };
 
 /// Time for one pair of versions on one workload.
@@ -60,6 +60,7 @@ fn main() {
     let elements = growing(&[32, 64, 128, 256, 512].map(|elements| (24, 8, elements)));
     table("Evaluating, by elements", &elements, evaluate_rounds);
     explaining_table();
+    charging_table();
 }
 
 /// All operators in turn, for these nodes, pieces and elements.
@@ -142,10 +143,53 @@ fn explain_rounds(workload: &Workload, asked: Asked) -> Rounds {
 }
 
 fn explain_evaluate_rounds(workload: &Workload, asked: Asked) -> Rounds {
+    measure(explainer(&LIBRARY, workload, asked), evaluator(workload))
+}
+
+/// A call by which the library evaluates into words of its own.
+fn evaluator(workload: &Workload) -> impl FnMut() -> Answer + '_ {
     let mut words = vec![!0; workload.words];
-    let evaluate =
-        || (LIBRARY.evaluate)(black_box(&workload.plan), black_box(&workload.data), black_box(&mut words));
-    measure(explainer(&LIBRARY, workload, asked), evaluate)
+    move || (LIBRARY.evaluate)(black_box(&workload.plan), black_box(&workload.data), black_box(&mut words))
+}
+
+/// The library's charge beside its evaluation of the same plan and data set, and beside the optimised charge. Charged
+/// for are the last two nodes of one region, or the last node against itself where no two are of one.
+fn charging_table() {
+    println!("### Charging (checking and evaluating included)\n");
+    println!(
+        "| input | accessed, owned | count | charge, µs | evaluate, µs | charge / evaluate \
+         | library, µs | optimised, µs | library / optimised |"
+    );
+    println!("|---|---:|---:|---:|---:|---:|---:|---:|---:|");
+    let mut workloads = evaluate_workloads();
+    workloads.push(longest_chain());
+    for workload in &workloads {
+        let billed = workload.last_transfer();
+        let Charge::Charged { count, .. } = billed.charge else { panic!("{}", workload.name) };
+        let rounds = [charge_evaluate_rounds(workload, billed), charge_rounds(workload, billed)];
+        let [beside_evaluate, beside_optimised] = rounds.map(|rounds| rounds.columns());
+        let nodes = format!("{}, {}", billed.transfer.accessed, billed.transfer.owned);
+        println!("| {} | {nodes} | {count} | {beside_evaluate} | {beside_optimised} |", workload.name);
+    }
+    println!();
+}
+
+/// A call that charges, tried once.
+fn charger<'a>(version: &Version, workload: &'a Workload, billed: Billed) -> impl FnMut() -> Charge + 'a {
+    let charge = version.charge;
+    let call =
+        move || charge(black_box(&workload.plan), black_box(&workload.data), black_box(billed.transfer));
+    assert_eq!(call(), billed.charge, "{}", workload.name);
+    call
+}
+
+fn charge_rounds(workload: &Workload, billed: Billed) -> Rounds {
+    let [library, optimised] = [LIBRARY, OPTIMISED].map(|version| charger(&version, workload, billed));
+    measure(library, optimised)
+}
+
+fn charge_evaluate_rounds(workload: &Workload, billed: Billed) -> Rounds {
+    measure(charger(&LIBRARY, workload, billed), evaluator(workload))
 }
 
 fn check_rounds(workload: &Workload, other: &Version) -> Rounds {

@@ -1,12 +1,14 @@
-//! Requests to explain: what is asked about, and what the two slices hold before.
+//! Requests to explain: what is asked about, and what the two slices hold before. Beside them stand those to charge.
 #![forbid(unsafe_code)]
 
-use mavisglen::{Refusal, Written, LONGEST_CHAIN};
+use mavisglen::{Charge, Refusal, Written, LONGEST_CHAIN};
 
 use super::case::Generator;
-use super::data;
 use super::deep::deep_plan;
-use crate::question::Question;
+use super::transfer::{any_transfers, some_transfers};
+use super::wide::{wide_data, wide_plan};
+use super::{beyond, data};
+use crate::question::{Question, Transfer};
 use crate::random::Random;
 use crate::reference::evaluation::Evaluated;
 use crate::reference::Reference;
@@ -27,13 +29,14 @@ pub struct Explained {
     pub elements: Vec<u16>,
 }
 
-/// A plan, a data set, what the reference makes of both, and requests.
+/// A plan, a data set, what the reference makes of both, and requests to explain and to charge.
 #[derive(Clone, Debug)]
 pub struct Inquiry {
     pub plan: Vec<u8>,
     pub data: Vec<u8>,
     pub evaluated: Result<Evaluated, Refusal>,
     pub requests: Vec<Request>,
+    pub transfers: Vec<Transfer>,
 }
 
 impl Inquiry {
@@ -41,7 +44,7 @@ impl Inquiry {
     pub fn of(plan: Vec<u8>, data: Vec<u8>) -> Inquiry {
         let reference = Reference::default();
         let evaluated = reference.checked_plan(&plan).and_then(|plan| reference.evaluated(plan, &data));
-        Inquiry { plan, data, evaluated, requests: Vec::new() }
+        Inquiry { plan, data, evaluated, requests: Vec::new(), transfers: Vec::new() }
     }
 
     /// What the reference, or a flawed copy of it, makes of a request; what is evaluated is not evaluated again.
@@ -52,6 +55,14 @@ impl Inquiry {
             Err(_) => reference.explain(&self.plan, &self.data, question, &mut nodes, &mut elements),
         };
         Explained { answer, nodes, elements }
+    }
+
+    /// What the reference, or a flawed copy of it, charges for a transfer.
+    pub fn charged_by(&self, reference: Reference, transfer: Transfer) -> Charge {
+        match &self.evaluated {
+            Ok(evaluated) => reference.charge_over(evaluated, transfer),
+            Err(_) => reference.charge(&self.plan, &self.data, transfer),
+        }
     }
 }
 
@@ -67,11 +78,15 @@ impl Inquiries {
         Inquiries { random: Random::new(!seed), cases: Generator::new(seed) }
     }
 
-    /// The bytes of a plan and of a data set: deep plans as often as cases of any origin, which are mostly refused.
+    /// The bytes of a plan and of a data set: deep plans as often as cases of any origin, which are mostly refused, and
+    /// wide plans at times.
     fn bytes(&mut self) -> Option<(Vec<u8>, Vec<u8>)> {
         let random = &mut self.random;
         if random.one_in(2) {
             return self.cases.next().map(|case| (case.plan, case.data));
+        }
+        if random.one_in(12) {
+            return Some((wide_plan(random).encode(), wide_data(random).encode()));
         }
         let plan = deep_plan(random);
         let data = match random.below(16) {
@@ -88,9 +103,10 @@ impl Iterator for Inquiries {
     fn next(&mut self) -> Option<Inquiry> {
         let (plan, data) = self.bytes()?;
         let mut inquiry = Inquiry::of(plan, data);
-        inquiry.requests = match &inquiry.evaluated {
-            Ok(evaluated) => some_requests(&mut self.random, evaluated),
-            Err(_) => vec![any_request(&mut self.random)],
+        let random = &mut self.random;
+        (inquiry.requests, inquiry.transfers) = match &inquiry.evaluated {
+            Ok(evaluated) => (some_requests(random, evaluated), some_transfers(random, evaluated)),
+            Err(_) => (vec![any_request(random)], any_transfers(random)),
         };
         Some(inquiry)
     }
@@ -163,17 +179,6 @@ fn spoiled(random: &mut Random, evaluated: &Evaluated, asked: Question) -> Quest
         node: spoil(1, asked.node, evaluated.plan.nodes.len()),
         piece: spoil(2, asked.piece, evaluated.data.pieces),
         element: spoil(4, asked.element, evaluated.size(asked.node)),
-    }
-}
-
-/// A number past the end: the first, one near it or near a limit, the same in its low bits, or the greatest.
-fn beyond(random: &mut Random, number: usize, count: usize) -> usize {
-    match random.below(8) {
-        0..=2 => count,
-        3 => count + random.within(1..=20),
-        4 => count.max(random.pick(&[15, 16, 47, 48, 511, 512, 513, 65535])),
-        5 | 6 => number | 1 << random.pick(&[8, 16, 32, 56, 63]),
-        _ => usize::MAX - random.below(2),
     }
 }
 

@@ -154,8 +154,9 @@ pub fn supplied_piece(data: &Data, number: usize, region: u8, piece: usize) -> P
     words
 }
 
+/// All pieces of a node, from those of the nodes before it.
 #[inline]
-fn fill_node(
+pub fn fill_node(
     plan: &Plan,
     data: &Data,
     [kind, a, b, _]: [u8; 4],

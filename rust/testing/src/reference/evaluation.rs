@@ -24,6 +24,11 @@ impl Evaluated {
         Some(self.partitions.get(node)?.get(piece)?.iter().copied())
     }
 
+    /// All pieces of a node that exists.
+    pub fn pieces(&self, node: usize) -> &[Set] {
+        &self.partitions[node]
+    }
+
     /// Whether a node's piece has an element; what does not exist has none.
     pub fn has(&self, node: usize, piece: usize, element: usize) -> bool {
         let pieces = self.partitions.get(node);

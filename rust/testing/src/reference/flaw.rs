@@ -221,6 +221,43 @@ pub enum Flaw {
     QuestionCutTo { bits: u32 },
     LaterPairsCleared,
     PairsWrittenBeforeJudgingSlices,
+
+    // What is counted, and what it costs.
+    OwnedWithoutAccessedCounted,
+    SharedCounted,
+    EitherWithoutOtherCounted,
+    AllAccessedCounted,
+    OnlyFirstPieceCounted,
+    LastPieceNotCounted,
+    ElementsCountedOnce,
+    PiecesCountedAsOne,
+    FirstOwnedPieceCompared,
+    CountCutTo { bits: u32 },
+    ProductCutTo { bits: u32 },
+    RemainderOfTheCount,
+    RemainderDropped,
+    CentsRoundedUp,
+    CentsOfEachPiece,
+    WholeThousandsCharged,
+
+    // What is charged for, and at what price.
+    OnlyAccessedNodeJudged,
+    OnlyOwnedNodeJudged,
+    ChargeRegionsUnjudged,
+    SameNodeRefused,
+    NoPriceRefused,
+    HighestPriceRefused,
+    PriceOneHigherAdmitted,
+    PriceUnlimited,
+    PriceCutTo { bits: u32 },
+    PriceSigned,
+    NodesCutTo { bits: u32 },
+    ChargePlacesExchanged,
+    PriceJudgedBeforeRegions,
+    PriceJudgedBeforeNodes,
+    RegionsJudgedBeforeNodes,
+    TransferJudgedBeforeData,
+    PriceJudgedBeforePlan,
 }
 
 impl Flaw {
@@ -256,6 +293,50 @@ impl Flaw {
         Flaw::QuestionCutTo { bits: 32 },
         Flaw::LaterPairsCleared,
         Flaw::PairsWrittenBeforeJudgingSlices,
+    ];
+
+    /// Flaws in what is counted and what it costs.
+    pub const CHARGE: [Flaw; 17] = [
+        Flaw::OwnedWithoutAccessedCounted,
+        Flaw::SharedCounted,
+        Flaw::EitherWithoutOtherCounted,
+        Flaw::AllAccessedCounted,
+        Flaw::OnlyFirstPieceCounted,
+        Flaw::LastPieceNotCounted,
+        Flaw::ElementsCountedOnce,
+        Flaw::PiecesCountedAsOne,
+        Flaw::FirstOwnedPieceCompared,
+        Flaw::CountCutTo { bits: 8 },
+        Flaw::CountCutTo { bits: 12 },
+        Flaw::ProductCutTo { bits: 32 },
+        Flaw::RemainderOfTheCount,
+        Flaw::RemainderDropped,
+        Flaw::CentsRoundedUp,
+        Flaw::CentsOfEachPiece,
+        Flaw::WholeThousandsCharged,
+    ];
+
+    /// Flaws in judging what is charged for.
+    pub const CHARGING: [Flaw; 19] = [
+        Flaw::OnlyAccessedNodeJudged,
+        Flaw::OnlyOwnedNodeJudged,
+        Flaw::ChargeRegionsUnjudged,
+        Flaw::SameNodeRefused,
+        Flaw::NoPriceRefused,
+        Flaw::HighestPriceRefused,
+        Flaw::PriceOneHigherAdmitted,
+        Flaw::PriceUnlimited,
+        Flaw::PriceCutTo { bits: 32 },
+        Flaw::PriceSigned,
+        Flaw::NodesCutTo { bits: 8 },
+        Flaw::NodesCutTo { bits: 16 },
+        Flaw::NodesCutTo { bits: 32 },
+        Flaw::ChargePlacesExchanged,
+        Flaw::PriceJudgedBeforeRegions,
+        Flaw::PriceJudgedBeforeNodes,
+        Flaw::RegionsJudgedBeforeNodes,
+        Flaw::TransferJudgedBeforeData,
+        Flaw::PriceJudgedBeforePlan,
     ];
 
     /// Flaws in which loops the parallelizable rule refuses.

@@ -3,12 +3,12 @@
 
 use mavisglen::{Written, LONGEST_CHAIN};
 use mavisglen_testing::filed::{data_d, plans};
-use mavisglen_testing::generate::{Explained, Inquiries, Inquiry, Request};
+use mavisglen_testing::generate::{Explained, Inquiry, Request};
 use mavisglen_testing::question::Question;
 use mavisglen_testing::reference::Reference;
 use mavisglen_testing::workload::{Asked, Workload};
 
-use super::{hexadecimal, setting, Compared, Guarded};
+use super::{hexadecimal, Compared, Guarded};
 
 impl Compared {
     fn explain(&self, plan: &[u8], data: &[u8], request: &Request) -> Explained {
@@ -19,7 +19,12 @@ impl Compared {
     }
 
     /// Answer and slices are the reference's; what was lent is kept but for the chain, and the chain is the grounds.
-    fn explains_alike(&self, name: impl Fn() -> String, inquiry: &Inquiry, request: &Request) -> Written {
+    pub(super) fn explains_alike(
+        &self,
+        name: impl Fn() -> String,
+        inquiry: &Inquiry,
+        request: &Request,
+    ) -> Written {
         let Inquiry { plan, data, .. } = inquiry;
         let explained = self.explain(plan, data, request);
         let expected = inquiry.explained_by(Reference::default(), request);
@@ -37,22 +42,6 @@ impl Compared {
             assert_eq!(grounds, Ok(()), "{}", describe());
         }
         explained.answer
-    }
-
-    /// Random requests to explain, about plans of which most are accepted and data sets of which most fit.
-    pub fn explains_random_requests_alike(&self, default_inquiries: u64) {
-        let (inquiries, seed) = (setting("MAVISGLEN_CASES", default_inquiries), setting("MAVISGLEN_SEED", 7));
-        let (mut requests, mut explained) = (0, 0);
-        for (number, inquiry) in (0..inquiries).zip(Inquiries::new(seed)) {
-            for request in &inquiry.requests {
-                let name = || format!("inquiry {number} of seed {seed}");
-                requests += 1;
-                explained += usize::from(self.explains_alike(name, &inquiry, request).length().is_some());
-            }
-        }
-        println!(
-            "{requests} requests of {inquiries} inquiries from seed {seed} agree, {explained} are explained"
-        );
     }
 
     /// Every node, piece and element of the filed examples, those that are just not there and the greatest numbers,
@@ -99,11 +88,10 @@ impl Compared {
     }
 
     /// A member, and something of a node that not every plan has.
-    pub(super) fn explains_altered_alike(&self, plan: &[u8], data: &[u8]) {
-        let inquiry = Inquiry::of(plan.to_vec(), data.to_vec());
+    pub(super) fn explains_altered_alike(&self, inquiry: &Inquiry) {
         for node in [1, 3] {
             let request = lent(Question { node, piece: 1, element: 2 }, [3; 2]);
-            self.explains_alike(|| "altered bytes".into(), &inquiry, &request);
+            self.explains_alike(|| "altered bytes".into(), inquiry, &request);
         }
     }
 }

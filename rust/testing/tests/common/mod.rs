@@ -1,6 +1,7 @@
 //! What the tests that compare a version with the reference share.
 #![forbid(unsafe_code)]
 
+mod charge;
 mod explain;
 
 use std::env;
@@ -8,11 +9,13 @@ use std::env;
 use mavisglen::{Answer, Refusal};
 use mavisglen_testing::encode::{limit, statement, Plan};
 use mavisglen_testing::filed::{data_d, plans};
-use mavisglen_testing::generate::{Case, Generator};
+use mavisglen_testing::generate::{Case, Generator, Inquiries, Inquiry};
 use mavisglen_testing::meaning::Meaning;
 use mavisglen_testing::reference;
 use mavisglen_testing::version::Version;
 use mavisglen_testing::workload::{filed_example, largest_check, longest_chain, longest_loop, mixed, Mix};
+
+use charge::Charges;
 
 /// A version that is compared with the reference.
 pub struct Compared(pub Version);
@@ -75,19 +78,40 @@ impl Compared {
         println!("{cases} cases from seed {seed} agree");
     }
 
+    /// Random requests to explain and to charge, about plans of which most are accepted and data sets of which most
+    /// fit.
+    pub fn answers_random_requests_alike(&self, default_inquiries: u64) {
+        let (inquiries, seed) = (setting("MAVISGLEN_CASES", default_inquiries), setting("MAVISGLEN_SEED", 7));
+        let (mut requests, mut explained, mut charges) = (0, 0, Charges::default());
+        for (number, inquiry) in (0..inquiries).zip(Inquiries::new(seed)) {
+            let name = || format!("inquiry {number} of seed {seed}");
+            for request in &inquiry.requests {
+                requests += 1;
+                explained += usize::from(self.explains_alike(name, &inquiry, request).length().is_some());
+            }
+            self.charges_alike(name, &inquiry, &inquiry.transfers, &mut charges);
+        }
+        println!(
+            "{requests} requests of {inquiries} inquiries from seed {seed} agree, {explained} are explained"
+        );
+        println!("{} requests to charge agree, {charges:?}", charges.all());
+        assert!(inquiries < 10_000 || charges.has_every_kind(), "{charges:?}");
+    }
+
     /// Every value of every byte, and every length, of the filed examples.
     pub fn agrees_around_the_filed_examples(&self) {
-        let (data, words) = (data_d().encode(), [!0; 100]);
+        let data = data_d().encode();
         for plan in plans().map(|plan| plan.encode()) {
-            for altered in altered_once(&plan) {
-                self.compare(&altered, &data, &words).must_agree(|| "altered plan".into(), &altered, &data);
-                self.explains_altered_alike(&altered, &data);
-            }
-            for altered in altered_once(&data) {
-                self.compare(&plan, &altered, &words).must_agree(|| "altered data".into(), &plan, &altered);
-                self.explains_altered_alike(&plan, &altered);
-            }
+            altered_once(&plan).for_each(|altered| self.agrees_on_altered(altered, data.clone()));
+            altered_once(&data).for_each(|altered| self.agrees_on_altered(plan.clone(), altered));
         }
+    }
+
+    fn agrees_on_altered(&self, plan: Vec<u8>, data: Vec<u8>) {
+        self.compare(&plan, &data, &[!0; 100]).must_agree(|| "altered bytes".into(), &plan, &data);
+        let inquiry = Inquiry::of(plan, data);
+        self.explains_altered_alike(&inquiry);
+        self.charges_altered_alike(&inquiry);
     }
 
     /// Every row of three accesses in one loop: a third can undo what is remembered of the first two. Refused are the
@@ -134,6 +158,7 @@ impl Compared {
             let comparison = self.compare(&workload.plan, &workload.data, &vec![!0; workload.words + 3]);
             assert!(comparison.evaluated[0].is_accepted(), "{}", workload.name);
             comparison.must_agree(|| workload.name.clone(), &workload.plan, &workload.data);
+            self.charges_workload_alike(&workload);
             let length = self.explains_workload_alike(&workload);
             println!("{}: a chain of {length}", workload.name);
         }

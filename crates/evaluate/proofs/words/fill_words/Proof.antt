@@ -21,5 +21,7 @@ fill-words-spec =
     (c .before .piece-count .ensures .0))
     (λ c. search needs)
     (λ c.
+    let listed = ap (λ (nodes : Bytes). length nodes / 4) (c .before .before .before .before .before .section-body .ensures) in
+    let start = c .before .before .before .before .before .before .before .before .before in
     c .before .before .fill-span .ensures
-    ∙ whole-filled _ _ _ (ap (λ (nodes : Bytes). length nodes / 4) (c .before .before .before .before .before .section-body .ensures)) (c .before .before .before .before .piece-count .ensures .0)))
+    ∙ whole-filled _ _ _ (omega (arith, listed, start .pre .inputs .accepted .limits .few-nodes)) listed (c .before .before .before .before .piece-count .ensures .0)))

@@ -10,9 +10,9 @@ use Rattle.listing.proofs.lines.answer_line.Tie as tie
 returns : tie.Need-returns
 unfolding answerText
 returns c =
-    let report = c .before .before .before .before .before .before .report-answer .ensures in
-    let zero = rw report at (c .before .before .before .before .if1 .taken) in
-    rw (pick-true _ _ _ (same! zero)) (rw report at (c .before .before .accepted-line .ensures))
+    let report = c .before .before .before .before .before .before .before .report-answer .ensures in
+    let zero = rw report at (c .before .before .before .before .before .if1 .taken) in
+    rw (pick-true _ _ _ (same! zero)) (rw report at (c .before .before .numbers-line .ensures))
 
 returns-2 : tie.Need-returns-2
 unfolding answerText _==_
@@ -25,7 +25,7 @@ pub answer-line-spec : {M : Type 1} → statement M
 answer-line-spec =
     tie.close
     (tie.spec
-    (λ c κs. search needs) (λ c κs. search needs) (λ c κs. search needs) (λ c. search needs)
+    (λ c κs. search needs) (λ c. search needs) (λ c κs. search needs) (λ c κs. search needs) (λ c. search needs)
     returns
     (λ c. search needs)
     returns-2)

@@ -52,6 +52,9 @@ module _ (s : tie.Start) where
   there : Exist (planOf p) (dataOf d) q
   there = existing p d q old-nodes old-elements (sym (s .pre .exists)) refl
 
+  few-nodes : q .node < 48
+  few-nodes = omega (arith, there .node-listed, s .pre .inputs .accepted .limits .few-nodes)
+
   few : q .element < 512
   few = element-few (planOf p) (dataOf d) q (s .pre .inputs .accepted .facts) (fit _ _ (s .pre .inputs .fits)) there
 
@@ -64,7 +67,7 @@ holds-requires : tie.Need-holds-requires
 holds-requires c κs =
     let m = c .before .before .before .before in
     let s = start m in
-    let f = filled (planOf (p s)) (dataOf (d s)) (q s) _ (m .fill-piece .ensures) (s .pre .room) in
+    let f = filled (planOf (p s)) (dataOf (d s)) (q s) _ (few-nodes s) (m .fill-piece .ensures) (s .pre .room) in
     omega (arith, f .room, few s)
 
 -- the test of membership
@@ -72,7 +75,7 @@ held : (h : tie.After-holds) → (let s = start (filled-of h) in h .holds .resul
 held h =
     let m = filled-of h in
     let s = start m in
-    let f = filled (planOf (p s)) (dataOf (d s)) (q s) _ (m .fill-piece .ensures) (s .pre .room) in
+    let f = filled (planOf (p s)) (dataOf (d s)) (q s) _ (few-nodes s) (m .fill-piece .ensures) (s .pre .room) in
     h .holds .ensures ∙ f .held _ _ (omega arith) (few s)
 
 returns : tie.Need-returns
@@ -87,7 +90,7 @@ trace-member-requires c κs =
     let h = c .before .before in
     let m = filled-of h in
     let s = start m in
-    let f = filled (planOf (p s)) (dataOf (d s)) (q s) _ (m .fill-piece .ensures) (s .pre .room) in
+    let f = filled (planOf (p s)) (dataOf (d s)) (q s) _ (few-nodes s) (m .fill-piece .ensures) (s .pre .room) in
     record {
       inputs = s .pre .inputs;
       node-listed = there s .node-listed;

@@ -1,0 +1,2 @@
+pub mod Fetched
+pub mod Bills
