@@ -53,6 +53,11 @@ pub record LowerPlaces (mask by : ℕ) : Type 0 where
 unfoldable pub reversedBits : ℕ → ℕ → Bool
 reversedBits x b = bit x (b / 8 * 8 + (7 - b % 8))
 
+-- the number of one bit, and of no other
+pub record OneBit (place n : ℕ) : Type 0 where
+  pub its-bit : place < 64 → Is (bit n place)
+  pub no-other : (b : ℕ) → Is (bit n b) → b ≡ place
+
 -- a word of a piece
 abbrev pub wordAt : List ℕ → ℕ → ℕ
 wordAt piece w = getD piece w 0

@@ -6,8 +6,8 @@ ghost use lib.Count.{trailingZeros};
 ghost use lib.ListN.{length};
 ghost use Rattle.model.specs.Bytes.{u16};
 ghost use Rattle.model.specs.Words as Words;
-ghost use Rattle.model.specs.Words.{digit, fromBits, word};
-ghost use Rattle.bitsets.specs.Elements.{upTo, between, combinedBits, twoBytes, bytesBits, exchangedBits, LowerPlaces, reversedBits, PieceOf};
+ghost use Rattle.model.specs.Words.{bit, digit, fromBits, word};
+ghost use Rattle.bitsets.specs.Elements.{upTo, between, combinedBits, twoBytes, bytesBits, exchangedBits, LowerPlaces, reversedBits, OneBit, PieceOf};
 
 // Word w of the elements below a number.
 pub fn word_below(count: usize, w: usize) -> u64
@@ -156,6 +156,24 @@ pub fn holds(words: &[u64], at: usize, element: usize) -> bool
     ensures { λ r. ⌜ r ≡ Words.holds (now (words .entry)) at element ⌝ }
 {
     bit_of(words, at, element) == 1
+}
+
+// Whether a word has the bit of a place.
+pub fn has_bit(word: u64, place: usize) -> bool
+    requires { ⌜ place < 64 ⌝ }
+    ensures { λ r. ⌜ r ≡ bit word place ⌝ }
+{
+    (word >> place) & 1 == 1
+}
+
+// The word of one bit; of none for a place that a word does not have.
+pub fn one_bit(place: usize) -> u64
+    ensures { λ r. ⌜ OneBit place r ⌝ }
+{
+    if place < 64 {
+        return 1 << place;
+    }
+    0
 }
 
 // The place of a word's lowest member; 64 where it has none.

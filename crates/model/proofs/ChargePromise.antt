@@ -1,35 +1,30 @@
 -- Charging keeps its whole promise where its answer is the defined one. Assumes nothing.
-use Prim.Native.Nat.{ℕ, _+_, _*_, _/_, _%_, _≤_, _<_}
+use Prim.Native.Nat.{ℕ, _*_, _/_, _%_, _≤_, _<_}
 use mathlib.Core.Path.{_≡_, refl, sym, ap, _∙_}
 use mathlib.Core.Logic.{_⊎_, inl, inr, _↔_}
-use mathlib.Core.List.{List}
 use native.Mathlib.Nat.{div-add-mod', mod-lt}
 use native.Mathlib.Omega.{arith}
 use Rattle.model.specs.Tests.{Is, _and_, _==_, _<?_}
 use Rattle.model.specs.Answers.{refusalReport, chargeReport}
 use Rattle.model.specs.Bytes.{Bytes}
-use Rattle.model.specs.Outcomes.{_then_}
 use Rattle.model.specs.Layout.{Plan, planOf, nodeCount}
 use Rattle.model.specs.Nodes.{nodeRegion}
-use Rattle.model.specs.DataSets.{dataOf, pieces, size}
-use Rattle.model.specs.Membership.{member}
-use Rattle.model.specs.Words.{holds}
+use Rattle.model.specs.DataSets.{dataOf}
 use Rattle.model.specs.Evaluation.{inputsCheck}
 use Rattle.model.specs.LoopRelations.{NodeRegion}
 use Rattle.model.specs.declared.Transfer.{Transfer}
-use Rattle.model.specs.Transfers.{transferCount, transferOnes, transferCheck, priced, chargeCheck, charge}
+use Rattle.model.specs.Transfers.{transferCount, transferCheck, priced, chargeCheck, charge}
 use Rattle.model.specs.Fetches.{BothExist, OneRegion, Chargeable}
 use Rattle.model.specs.PlainPlan.{WellFormed, Parallelizable, Licensed, Concluded}
 use Rattle.model.specs.PlainData.{Fits}
 use Rattle.model.specs.GivenWhen.{TransferGivenWhen, no-node, regions-differ, price-too-high, ChargeGivenWhen, of-plan, of-data, of-transfer}
 use Rattle.model.specs.RefusalOrder.{turns, turn, Earlier, by-stage, by-item, by-check}
-use Rattle.model.specs.Promises.{Accepts, EvaluationPromise, ChargeMeans, ChargePromise}
+use Rattle.model.specs.Promises.{ChargeMeans, ChargePromise}
 use Rattle.model.specs.declared.Refusal.{Refusal}
-use Rattle.model.specs.declared.Answer.{Answer}
 use Rattle.model.specs.declared.Outcome.the-variants.{Pass, Refuse}
 use Rattle.model.specs.declared.Charge.{Charge}
 use Rattle.model.specs.declared.Charge.the-variants.{Charged, Refused}
-use Rattle.model.proofs.Tests.{both, pair, lacks, refuted, less, less!, most, most!, same, same! }
+use Rattle.model.proofs.Tests.{both, pair, lacks, less, less!, most, most!, same, same! }
 use Rattle.model.proofs.Outcomes.{then-pass, passes-then, then-cases, require-pass, required, require-refuse, charging-charged, charging-refused, charging-pass}
 use Rattle.model.proofs.Turns.{turnOf, not-itself, ClearUpTo, clear-test, clear-both}
 use Rattle.model.proofs.Fitting.{Fit, fit}

@@ -15,13 +15,29 @@ use Rattle.model.proofs.Tests.{falsum, either, one, less! }
 use Rattle.model.proofs.Words.{bit-zero}
 use Rattle.model.proofs.NodesAgree.{node-formed}
 use Rattle.primitives.proofs.Bits.{bit-or, bit-ones}
-use Rattle.subregions.specs.Needed.{OneBit, OperandBits, OperandsNeeded, NeededFor}
-
--- the kind of a node's operands, as its record is formed
-formed : {P : Plan} → Facts P → (j : ℕ) → j < nodeCount P → NodeFormed P j
-formed {P} F j lt = node-formed P j .0 (F .node-formed j lt)
+use Rattle.bitsets.specs.Elements.{OneBit}
+use Rattle.subregions.specs.Needed.{OperandBits, OperandsNeeded, NeededFor}
 
 module _ {P : Plan} (F : Facts P) {j : ℕ} (lt : j < nodeCount P) where
+  -- a node's operands come before it
+  left-earlier : 2 ≤ nodeKind P j → nodeA P j < j
+  left-earlier two = by (node-formed P j .0 (F .node-formed j lt))
+    where
+      by : NodeFormed P j → nodeA P j < j
+      by (supplied-formed k l r u) = absurd (omega arith)
+      by (equal-formed k l r u) = absurd (omega arith)
+      by (operands-formed low high l r u) = l
+      by (map-formed k l r u) = l
+
+  right-earlier : 2 ≤ nodeKind P j → nodeKind P j ≤ 4 → nodeB P j < j
+  right-earlier two four = by (node-formed P j .0 (F .node-formed j lt))
+    where
+      by : NodeFormed P j → nodeB P j < j
+      by (supplied-formed k l r u) = absurd (omega arith)
+      by (equal-formed k l r u) = absurd (omega arith)
+      by (operands-formed low high l r u) = r
+      by (map-formed k l r u) = elim k [ inl e ↦ absurd (omega arith) | inr e ↦ absurd (omega arith) ]
+
   -- no operand
   pub none-bits : nodeKind P j < 2 → OperandBits P j 0
   none-bits few = record { left = λ two. absurd (omega arith); right = λ two four. absurd (omega arith); earlier = λ b h. falsum (sym (bit-zero b) ∙ h) }
@@ -29,36 +45,27 @@ module _ {P : Plan} (F : Facts P) {j : ℕ} (lt : j < nodeCount P) where
   module _ (near : j ≤ 64) {a : ℕ} (A : OneBit (nodeA P j) a) where
     -- one, of an image or a preimage
     pub left-bit : 4 < nodeKind P j → OperandBits P j a
-    left-bit many = by (formed F j lt)
-      where
-        by : NodeFormed P j → OperandBits P j a
-        by (supplied-formed k l b u) = absurd (omega arith)
-        by (equal-formed k l b u) = absurd (omega arith)
-        by (operands-formed two four l r u) = absurd (omega arith)
-        by (map-formed k l r u) =
-            record {
-              left = λ two. A .its-bit (omega arith);
-              right = λ two four. absurd (omega arith);
-              earlier = λ b h. let is = A .no-other b h in omega arith;
-            }
+    left-bit many =
+        let before = left-earlier (omega arith) in
+        record {
+          left = λ two. A .its-bit (omega arith);
+          right = λ two four. absurd (omega arith);
+          earlier = λ b h. let is = A .no-other b h in omega arith;
+        }
 
     -- both, of kinds 2 to 4
     pub both-bits : {b : ℕ} → OneBit (nodeB P j) b → 2 ≤ nodeKind P j → nodeKind P j ≤ 4 → OperandBits P j (bitOr a b)
-    both-bits {b} B low high = by (formed F j lt)
-      where
-        by : NodeFormed P j → OperandBits P j (bitOr a b)
-        by (supplied-formed k l m u) = absurd (omega arith)
-        by (equal-formed k l m u) = absurd (omega arith)
-        by (map-formed k l r u) = elim k [ inl e ↦ absurd (omega arith) | inr e ↦ absurd (omega arith) ]
-        by (operands-formed two four l r u) =
-            record {
-              left = λ two. bit-or a b _ ∙ one (inl (A .its-bit (omega arith)));
-              right = λ two four. bit-or a b _ ∙ one (inr (B .its-bit (omega arith)));
-              earlier = λ e h. elim (either (sym (bit-or a b e) ∙ h)) [
-                | inl x ↦ let is = A .no-other e x in omega arith
-                | inr x ↦ let is = B .no-other e x in omega arith
-              ];
-            }
+    both-bits {b} B low high =
+        let left-before = left-earlier low in
+        let right-before = right-earlier low high in
+        record {
+          left = λ two. bit-or a b _ ∙ one (inl (A .its-bit (omega arith)));
+          right = λ two four. bit-or a b _ ∙ one (inr (B .its-bit (omega arith)));
+          earlier = λ e h. elim (either (sym (bit-or a b e) ∙ h)) [
+            | inl x ↦ let is = A .no-other e x in omega arith
+            | inr x ↦ let is = B .no-other e x in omega arith
+          ];
+        }
 
 -- every node, of 64 at most
 abbrev pub ALL : ℕ
@@ -68,23 +75,11 @@ pub all-needed : (k : ℕ) → k < 64 → Is (bit ALL k)
 all-needed k l = bit-ones 64 k ∙ less! l
 
 pub all-operands : {P : Plan} {count : ℕ} → Facts P → count ≤ nodeCount P → count ≤ 64 → OperandsNeeded P count ALL
-all-operands {P} {count} F listed few =
+all-operands F listed few =
     record {
-      left = λ j l h two. left j l two (formed F j (omega arith));
-      right = λ j l h two four. right j l two four (formed F j (omega arith));
+      left = λ j l h two. all-needed _ (omega (arith, left-earlier F {j = j} (omega arith) two));
+      right = λ j l h two four. all-needed _ (omega (arith, right-earlier F {j = j} (omega arith) two four));
     }
-  where
-    left : (j : ℕ) → j < count → 2 ≤ nodeKind P j → NodeFormed P j → Is (bit ALL (nodeA P j))
-    left j l two (supplied-formed k a b u) = absurd (omega arith)
-    left j l two (equal-formed k a b u) = absurd (omega arith)
-    left j l two (operands-formed low high a b u) = all-needed _ (omega arith)
-    left j l two (map-formed k a b u) = all-needed _ (omega arith)
-
-    right : (j : ℕ) → j < count → 2 ≤ nodeKind P j → nodeKind P j ≤ 4 → NodeFormed P j → Is (bit ALL (nodeB P j))
-    right j l two four (supplied-formed k a b u) = absurd (omega arith)
-    right j l two four (equal-formed k a b u) = absurd (omega arith)
-    right j l two four (operands-formed low high a b u) = all-needed _ (omega arith)
-    right j l two four (map-formed k a b u) = elim k [ inl e ↦ absurd (omega arith) | inr e ↦ absurd (omega arith) ]
 
 -- so far: what is wanted is needed, and so are the operands of the needed nodes from j on
 pub record PassedDown (P : Plan) (count wanted needed j : ℕ) : Type 0 where

@@ -7,11 +7,6 @@ use Rattle.model.specs.Layout.{Plan, nodeCount, nodeKind, nodeA, nodeB}
 use Rattle.model.specs.Words.{bit}
 use Rattle.model.specs.AcceptedPlans.{Facts}
 
--- the number of one bit, and of no other
-pub record OneBit (place n : ℕ) : Type 0 where
-  pub its-bit : place < 64 → Is (bit n place)
-  pub no-other : (b : ℕ) → Is (bit n b) → b ≡ place
-
 -- the operands of node j, by its kind, and nothing behind them
 pub record OperandBits (P : Plan) (j n : ℕ) : Type 0 where
   pub left : 2 ≤ nodeKind P j → Is (bit n (nodeA P j))

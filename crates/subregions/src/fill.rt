@@ -1,6 +1,5 @@
 // Fills the lent words, node by node.
 use crate::Span;
-use crate::needed::has_bit;
 use crate::pieces::fill_difference;
 use crate::pieces::fill_equal;
 use crate::pieces::fill_image;
@@ -8,6 +7,7 @@ use crate::pieces::fill_intersection;
 use crate::pieces::fill_preimage;
 use crate::pieces::fill_supplied;
 use crate::pieces::fill_union;
+use bitsets::words::has_bit;
 use model::NodeKind;
 use primitives::bytes::byte_at;
 use primitives::bytes::u16_at;

@@ -1,33 +1,15 @@
 // The nodes that some nodes are made of, as the bits of a word.
+use bitsets::words::has_bit;
+use bitsets::words::one_bit;
 use model::NodeKind;
 use primitives::bytes::byte_at;
 use primitives::records::node_kind;
-ghost use mathlib.Core.Path.{_≡_};
 ghost use Prim.Native.Nat.{_+_, _≤_, _<_};
 ghost use Rattle.model.specs.Layout.{Plan};
-ghost use Rattle.model.specs.Words.{bit};
-ghost use Rattle.subregions.specs.Needed.{OneBit, OperandBits, NodesRead, NeededFor};
+ghost use Rattle.subregions.specs.Needed.{OperandBits, NodesRead, NeededFor};
 
 // Every node, of 64 at most.
 pub const ALL_NODES: u64 = 0xFFFF_FFFF_FFFF_FFFF;
-
-// Whether a word has the bit of a place.
-pub fn has_bit(word: u64, place: usize) -> bool
-    requires { ⌜ place < 64 ⌝ }
-    ensures { λ r. ⌜ r ≡ bit word place ⌝ }
-{
-    (word >> place) & 1 == 1
-}
-
-// The word of one bit; of none for a place that a word does not have.
-pub fn one_bit(place: usize) -> u64
-    ensures { λ r. ⌜ OneBit place r ⌝ }
-{
-    if place < 64 {
-        return 1 << place;
-    }
-    0
-}
 
 // The operands of node j.
 fn operand_bits(nodes: &[u8], j: usize) -> u64

@@ -1,7 +1,7 @@
 -- The tests of a transfer in a row: each refusal, and what is known after it; the promise that follows. Assumes nothing.
 use Prim.Native.Nat.{ℕ, _≤_, _<_}
 use mathlib.Core.Path.{_≡_, refl, sym, ap, _∙_}
-use mathlib.Core.Logic.{_⊎_, inl, inr}
+use mathlib.Core.Logic.{inl, inr}
 use native.Mathlib.Omega.{arith}
 use Rattle.model.specs.Tests.{_==_, _≤?_}
 use Rattle.model.specs.Bytes.{Bytes}

@@ -1,13 +1,13 @@
 -- The one bits that are counted in the words of the two nodes are the elements that are fetched. Assumes nothing.
 use Prim.Native.Nat.{ℕ, _+_, _*_, _≤_, _<_}
-use mathlib.Core.Path.{_≡_, refl, sym, ap, ap₂, _∙_}
+use mathlib.Core.Path.{_≡_, ap₂, _∙_}
 use mathlib.Core.Logic.{_⊎_, inl, inr}
 use mathlib.Core.List.{List}
 use native.Mathlib.Nat.{mul-le-mul-right, suc-mul}
 use native.Mathlib.Omega.{arith}
 use lib.ListN.{length}
 use Rattle.model.specs.Bytes.{Bytes}
-use Rattle.model.specs.Layout.{planOf, nodeCount}
+use Rattle.model.specs.Layout.{planOf}
 use Rattle.model.specs.DataSets.{dataOf, pieces}
 use Rattle.model.specs.Membership.{member}
 use lib.Bits.{bitOr}
@@ -19,7 +19,7 @@ use Rattle.model.specs.declared.Transfer.{Transfer}
 use Rattle.model.specs.Transfers.{transferCount, transferOnes}
 use Rattle.model.proofs.Tests.{one}
 use Rattle.primitives.proofs.Bits.{bit-or}
-use Rattle.subregions.specs.Needed.{OneBit}
+use Rattle.bitsets.specs.Elements.{OneBit}
 use Rattle.model.proofs.Counting.{sum-same}
 use Rattle.model.proofs.Fitting.{fit}
 use Rattle.model.proofs.Transfers.{ones-are-fetched}
@@ -34,18 +34,18 @@ module _ {p d : Bytes} {reading : Reading} {layout : DataLayout} {t : Transfer} 
   pub both-exist : BothExist (planOf p) t
   both-exist =
       record {
-        accessed-exists = omega (arith, ready .accessed-among, ready .nodes-listed);
-        owned-exists = omega (arith, ready .owned-among, ready .nodes-listed);
+        accessed-exists = omega (arith, ready .accessed-among, ready .room .nodes-listed);
+        owned-exists = omega (arith, ready .owned-among, ready .room .nodes-listed);
       }
 
   -- the words of a node among the first
   pub node-room : (j : ℕ) → j < nodes → j * N * 8 + N * 8 ≤ length words
   node-room j l =
-      let enough : nodes * N * 8 ≤ lent = rw counted (ready .enough) in
+      let enough : nodes * N * 8 ≤ lent = rw counted (ready .room .enough) in
       omega (arith, filled .room, mul-le-mul-right N l, suc-mul j N)
 
   few-nodes : nodes ≤ 48
-  few-nodes = omega (arith, ready .nodes-listed, ready .inputs .accepted .limits .few-nodes)
+  few-nodes = omega (arith, ready .room .nodes-listed, ready .room .inputs .accepted .limits .few-nodes)
 
   -- both nodes are wanted
   accessed-wanted : Is (bit (bitOr x y) (t .accessed))
@@ -71,4 +71,4 @@ module _ {p d : Bytes} {reading : Reading} {layout : DataLayout} {t : Transfer} 
 
   pub ones-counted : sum N (λ i. onesLacking words (t .accessed * N * 8 + i * 8) (t .owned * N * 8 + i * 8)) ≡ transferCount (planOf p) (dataOf d) t
   ones-counted =
-      in-order ∙ ones-are-fetched (planOf p) (dataOf d) (ready .inputs .accepted .facts) (fit (planOf p) d (ready .inputs .fits)) t both-exist words N counted held
+      in-order ∙ ones-are-fetched (planOf p) (dataOf d) (ready .room .inputs .accepted .facts) (fit (planOf p) d (ready .room .inputs .fits)) t both-exist words N counted held

@@ -1,15 +1,14 @@
 -- When what is fetched can be counted.
-use Prim.Native.Nat.{ℕ, _*_, _≤_, _<_}
+use Prim.Native.Nat.{ℕ, _≤_, _<_}
 use mathlib.Core.Path.{_≡_}
 use mathlib.Core.Logic.{_⊎_}
 use Rattle.model.specs.Bytes.{Bytes}
-use Rattle.model.specs.Layout.{planOf, nodeCount}
-use Rattle.model.specs.DataSets.{dataOf, pieces}
+use Rattle.model.specs.Layout.{planOf}
 use Rattle.model.specs.Fetches.{BothExist}
 use Rattle.model.specs.declared.Transfer.{Transfer}
 use Rattle.plan.specs.declared.Reading.{Reading}
 use Rattle.dataset.specs.declared.layout.DataLayout.{DataLayout}
-use Rattle.evaluate.specs.Words.{InputsReady}
+use Rattle.evaluate.specs.Words.{InputsReady, WantedReady}
 
 -- both inputs were accepted, and both nodes exist
 pub record TransferReady (p : Bytes) (reading : Reading) (d : Bytes) (layout : DataLayout) (t : Transfer) : Type 0 where
@@ -18,11 +17,9 @@ pub record TransferReady (p : Bytes) (reading : Reading) (d : Bytes) (layout : D
 
 -- both nodes are among the first, for which so many words are enough
 pub record RoomReady (p : Bytes) (reading : Reading) (d : Bytes) (layout : DataLayout) (t : Transfer) (nodes lent : ℕ) : Type 0 where
-  pub inputs : InputsReady p reading d layout
+  pub room : WantedReady p reading d layout nodes lent
   pub accessed-among : t .accessed < nodes
   pub owned-among : t .owned < nodes
-  pub nodes-listed : nodes ≤ nodeCount (planOf p)
-  pub enough : nodes * pieces (dataOf d) * 8 ≤ lent
 
 -- node j is the later of the two
 pub record Later (t : Transfer) (j : ℕ) : Type 0 where

@@ -1,11 +1,11 @@
 // The elements that are fetched, counted in the words of the two nodes.
 use bitsets::counts::lacking_pieces;
+use bitsets::words::one_bit;
 use dataset::cells::piece_count;
 use dataset::layout::DataLayout;
 use evaluate::words::fill_wanted;
 use model::Transfer;
 use plan::Reading;
-use subregions::needed::one_bit;
 ghost use mathlib.Core.Path.{_≡_};
 ghost use Prim.Native.Nat.{_≤_};
 ghost use lib.ListN.{length};

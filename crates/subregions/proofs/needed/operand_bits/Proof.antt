@@ -9,7 +9,8 @@ use Rattle.model.specs.Layout.{Plan, nodeCount, nodeKind, nodeA, nodeB}
 use Rattle.model.specs.Nodes.{nodeKindAt}
 use Rattle.model.specs.DataSets.{dataOf}
 use Rattle.model.specs.declared.NodeKind.{NodeKind}
-use Rattle.subregions.specs.Needed.{OneBit, NodesRead}
+use Rattle.bitsets.specs.Elements.{OneBit}
+use Rattle.subregions.specs.Needed.{NodesRead}
 use Rattle.subregions.proofs.NodeOperators.{byteOf, byte-is, known-kind}
 use Rattle.subregions.proofs.NodeFill.{OperandsRead, operands-read}
 use Rattle.subregions.proofs.NeededNodes.{none-bits, left-bit, both-bits}

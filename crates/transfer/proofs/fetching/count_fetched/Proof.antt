@@ -49,11 +49,13 @@ module _ (m : tie.After-piece-count) where
       (let a = start later .args in RoomReady (now (a .plan)) (a .reading) (now (a .«data»)) (a .layout) (a .transfer) (later .later-node .result + 1) lent)
   room-ready {lent} enough =
       record {
-        inputs = start later .pre .inputs;
+        room = record {
+          inputs = start later .pre .inputs;
+          nodes-listed = omega (arith, last-listed later);
+          enough = subst (λ (N : ℕ). (later .later-node .result + 1) * N * 8 ≤ lent) (m .piece-count .ensures .0) enough;
+        };
         accessed-among = omega (arith, later .later-node .ensures .after-accessed);
         owned-among = omega (arith, later .later-node .ensures .after-owned);
-        nodes-listed = omega (arith, last-listed later);
-        enough = subst (λ (N : ℕ). (later .later-node .result + 1) * N * 8 ≤ lent) (m .piece-count .ensures .0) enough;
       }
 
 pub count-fetched-spec : {M : Type 1} → statement M

@@ -1,5 +1,4 @@
 -- The words of the two nodes, and the ones in them (Fetched). Assumes nothing.
-use denote.Ref.{now}
 use Prim.Native.Nat.{_*_, _≤_}
 use mathlib.Core.Path.{_∙_}
 use native.Mathlib.Nat.{mul-le-mul}
@@ -21,9 +20,7 @@ abbrev start : tie.After-one-bit2 → tie.Start
 start o = o .before .before .before .before .before
 
 fill-wanted-requires : tie.Need-fill-wanted-requires
-fill-wanted-requires c κs =
-    let ready = start (c .before) .pre in
-    record { inputs = ready .inputs; nodes-listed = ready .nodes-listed; enough = ready .enough }
+fill-wanted-requires c κs = start (c .before) .pre .room
 
 -- few nodes and pieces
 module _ (m : tie.After-piece-count) where
@@ -31,13 +28,13 @@ module _ (m : tie.After-piece-count) where
   entry = start (wanted-of (filled-of m))
 
   few-pieces : m .piece-count .result ≤ 16
-  few-pieces = omega (arith, m .piece-count .ensures .0, fit _ _ (entry .pre .inputs .fits) .few-pieces)
+  few-pieces = omega (arith, m .piece-count .ensures .0, fit _ _ (entry .pre .room .inputs .fits) .few-pieces)
 
   accessed-few : entry .args .transfer .accessed * m .piece-count .result ≤ 48 * 16
-  accessed-few = mul-le-mul {n₂ = 48} {m₂ = 16} (omega (arith, entry .pre .accessed-among, entry .pre .nodes-listed, entry .pre .inputs .accepted .limits .few-nodes)) few-pieces
+  accessed-few = mul-le-mul {n₂ = 48} {m₂ = 16} (omega (arith, entry .pre .accessed-among, entry .pre .room .nodes-listed, entry .pre .room .inputs .accepted .limits .few-nodes)) few-pieces
 
   owned-few : entry .args .transfer .owned * m .piece-count .result ≤ 48 * 16
-  owned-few = mul-le-mul {n₂ = 48} {m₂ = 16} (omega (arith, entry .pre .owned-among, entry .pre .nodes-listed, entry .pre .inputs .accepted .limits .few-nodes)) few-pieces
+  owned-few = mul-le-mul {n₂ = 48} {m₂ = 16} (omega (arith, entry .pre .owned-among, entry .pre .room .nodes-listed, entry .pre .room .inputs .accepted .limits .few-nodes)) few-pieces
 
 lacking-pieces-requires : tie.Need-lacking-pieces-requires
 lacking-pieces-requires c κs =

@@ -5,8 +5,8 @@ use lib.Bits.{and-mask}
 use Rattle.model.specs.Tests.{_==_}
 use Rattle.model.specs.Words.{bit}
 use borrow.Author.Needs.{needs}
-use Rattle.subregions.proofs.needed.has_bit.Statement.{statement}
-use Rattle.subregions.proofs.needed.has_bit.Tie as tie
+use Rattle.bitsets.proofs.words.has_bit.Statement.{statement}
+use Rattle.bitsets.proofs.words.has_bit.Tie as tie
 
 returns : tie.Need-returns
 unfolding bit _==_

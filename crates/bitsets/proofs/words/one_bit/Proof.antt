@@ -5,8 +5,8 @@ use Rattle.model.proofs.Tests.{falsum, same, same! }
 use Rattle.model.proofs.Words.{bit-zero}
 use Rattle.primitives.proofs.Bits.{bit-power, one-shifted}
 use borrow.Author.Needs.{needs}
-use Rattle.subregions.proofs.needed.one_bit.Statement.{statement}
-use Rattle.subregions.proofs.needed.one_bit.Tie as tie
+use Rattle.bitsets.proofs.words.one_bit.Statement.{statement}
+use Rattle.bitsets.proofs.words.one_bit.Tie as tie
 
 returns : tie.Need-returns
 returns c =
