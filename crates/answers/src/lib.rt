@@ -1,4 +1,6 @@
 // What an answer reports, as numbers.
+#![tactic(auto)]
+
 ghost use Rattle.std.specs.Prelude.{◌≡◌};
 ghost use Rattle.model.specs.Answers.{report, refusalReport, writtenReport, chargeReport};
 

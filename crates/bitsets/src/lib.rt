@@ -1,3 +1,5 @@
 // Sets of elements in words of 64 bits.
+#![tactic(auto)]
+
 pub mod counts;
 pub mod words;

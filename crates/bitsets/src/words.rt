@@ -32,7 +32,7 @@ pub fn word_between(low: usize, high: usize, w: usize) -> u64
 }
 
 // The operators on two sets.
-#[derive(Drop)]
+#[derive(Clone, Copy)]
 pub enum SetOperator {
     Union,
     Intersection,

@@ -17,7 +17,7 @@ pub const DATA_SECTIONS: usize = 4;
 
 // What reading a layout gives: whether it is right, the data set's frame, and where each map's entries and each
 // supplied partition's members begin in their section.
-#[derive(Drop)]
+#[derive(Clone, Copy)]
 pub struct DataLayout {
     pub outcome: Outcome,
     pub frame: Frame,
@@ -26,14 +26,14 @@ pub struct DataLayout {
 }
 
 // Where each map's entries begin in their section, and where the last map's end.
-#[derive(Drop)]
+#[derive(Clone, Copy)]
 pub struct EntryStarts {
     pub starts: [usize; 16],
     pub end: usize,
 }
 
 // Where each supplied partition's pieces begin in their section, and where the last one's end.
-#[derive(Drop)]
+#[derive(Clone, Copy)]
 pub struct MemberStarts {
     pub starts: [usize; 8],
     pub end: usize,

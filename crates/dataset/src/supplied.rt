@@ -12,7 +12,7 @@ use primitives::bytes::byte_at;
 use primitives::records::{supplied_flags, supplied_region};
 
 // Eight bytes of each piece: the elements in some piece, and those in two.
-#[derive(Drop)]
+#[derive(Clone, Copy)]
 pub struct Column {
     pub seen: u64,
     pub repeated: u64,

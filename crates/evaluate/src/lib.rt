@@ -1,4 +1,6 @@
 // Evaluates accepted plans over data sets that fit them.
+#![tactic(auto)]
+
 ghost use Rattle.model.specs.Promises.{EvaluationPromise};
 
 use crate::data::{check_contents, read_data_layout};

@@ -4,7 +4,7 @@ ghost use Rattle.std.specs.Prelude.{◌≤◌, ◌<◌, length};
 use crate::tokens::{next_word, number};
 
 // How a word of a case is laid out: a number in one byte or in two, or elements as bits, the highest first.
-#[derive(Drop)]
+#[derive(Clone, Copy)]
 pub enum Unit {
     Byte,
     Wide,
@@ -12,7 +12,7 @@ pub enum Unit {
 }
 
 // How long what is being built is, and where the length of the open section stands; 0 where none is open.
-#[derive(Drop)]
+#[derive(Clone, Copy)]
 pub struct Place {
     pub end: usize,
     pub section: usize,

@@ -8,7 +8,7 @@ use crate::tokens::{next_number, next_word};
 use check::same;
 
 // What the first word of a line asks for.
-#[derive(Drop)]
+#[derive(Clone, Copy)]
 pub enum Keyword {
     Case,
     Plan,
@@ -25,7 +25,7 @@ pub enum Keyword {
 }
 
 // What has been built: whether a data set is being built or a plan, how its words are laid out, and how far both are.
-#[derive(Drop)]
+#[derive(Clone, Copy)]
 pub struct Progress {
     pub in_data: bool,
     pub unit: Unit,

@@ -8,7 +8,7 @@ use model::Question;
 use provenance::explain;
 
 // What a line asks, and how many places it lends for the nodes and for the elements of the chain.
-#[derive(Drop)]
+#[derive(Clone, Copy)]
 pub struct Request {
     pub question: Question,
     pub nodes: usize,

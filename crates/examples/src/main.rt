@@ -17,6 +17,8 @@
 //                             if a place that is not of the chain is
 //   charge A O PRICE          charges for what node A accesses and node O does not own, and prints the charge
 //   a number, a piece         belongs to the section that is open
+#![tactic(auto)]
+
 mod actions;
 mod building;
 mod cases;

@@ -1,4 +1,6 @@
 // Expressions: section 5's nodes, and section 7's lemma steps about them.
+#![tactic(auto)]
+
 pub mod lemmas;
 pub mod licences;
 pub mod nodes;

@@ -24,7 +24,7 @@ pub const IMAGE: usize = 5;
 pub const PREIMAGE: usize = 6;
 
 // A record of section 5.
-#[derive(Drop)]
+#[derive(Clone, Copy)]
 pub struct Node {
     pub kind: usize,
     pub a: usize,
@@ -33,14 +33,14 @@ pub struct Node {
 }
 
 // The region of a node, and whether the regions of its operands agree, with each other or with its map.
-#[derive(Drop)]
+#[derive(Clone, Copy)]
 pub struct NodeRegion {
     pub region: usize,
     pub agrees: bool,
 }
 
 // The outcome of a node, its key and, after a pass, its region.
-#[derive(Drop)]
+#[derive(Clone, Copy)]
 pub struct CheckedNode {
     pub outcome: Outcome,
     pub region: usize,
@@ -48,7 +48,7 @@ pub struct CheckedNode {
 }
 
 // The outcome of section 5 and, after a pass, the region and the key of each node.
-#[derive(Drop)]
+#[derive(Clone, Copy)]
 pub struct CheckedNodes {
     pub outcome: Outcome,
     pub regions: [u8; 48],

@@ -12,7 +12,7 @@ use primitives::bytes::usize_of;
 use primitives::outcomes::require;
 
 // A record of section 7.
-#[derive(Drop)]
+#[derive(Clone, Copy)]
 pub struct Step {
     pub lemma: usize,
     pub x: usize,
@@ -22,7 +22,7 @@ pub struct Step {
 }
 
 // What steps p and q of a step conclude, as keys.
-#[derive(Drop)]
+#[derive(Clone, Copy)]
 pub struct Premises {
     pub p: u32,
     pub q: u32,

@@ -1,8 +1,10 @@
 // Files read into a buffer.
+#![tactic(auto)]
+
 ghost use Rattle.io.specs.Counts.{IsPrefixLen};
 
 // How many bytes of a file stand at the start of a buffer; none where the file could not be read.
-#[derive(Drop)]
+#[derive(Clone, Copy)]
 pub struct Contents {
     pub is_read: bool,
     pub length: usize,

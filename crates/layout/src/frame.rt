@@ -9,14 +9,14 @@ use primitives::outcomes::{and_then, require};
 use primitives::sections::Frame;
 
 // The outcome of the checks of a plan's layout, and its frame where they pass, all 0 where they do not.
-#[derive(Drop)]
+#[derive(Clone, Copy)]
 pub struct Framed {
     pub outcome: Outcome,
     pub frame: Frame,
 }
 
 // A row of the table of sections: the bytes of a record, the least and the most records.
-#[derive(Drop)]
+#[derive(Clone, Copy)]
 struct Shape {
     width: usize,
     fewest: usize,

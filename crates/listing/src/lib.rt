@@ -1,4 +1,6 @@
 // The text of a report, line by line: the answer, and the members of pieces or the pairs of a chain.
+#![tactic(auto)]
+
 mod lines;
 mod members;
 mod text;

@@ -15,7 +15,7 @@ use primitives::lookup::flag_at;
 use primitives::outcomes::require;
 
 // What a statement accesses: how, which region and field, through a centered variable or not, and with which operator.
-#[derive(Drop)]
+#[derive(Clone, Copy)]
 pub struct LoopAccess {
     pub access: Access,
     pub region: usize,
@@ -25,7 +25,7 @@ pub struct LoopAccess {
 }
 
 // The statements of a loop: from its FOR to before `end`.
-#[derive(Drop)]
+#[derive(Clone, Copy)]
 pub struct LoopRange {
     pub first: usize,
     pub end: usize,

@@ -11,7 +11,7 @@ use primitives::bytes::{byte_at, usize_of};
 
 // The outcome of section 4's checks and, after a pass, the tables by statement: the definition of the variable that it
 // works on, the region of the variable that it defines, and whether that one is centered.
-#[derive(Drop)]
+#[derive(Clone, Copy)]
 pub struct CheckedStatements {
     pub outcome: Outcome,
     pub operands: [u8; 64],

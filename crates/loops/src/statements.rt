@@ -12,7 +12,7 @@ use primitives::outcomes::{and_then, require};
 use primitives::records::{map_source, map_target};
 
 // A record of section 4.
-#[derive(Drop)]
+#[derive(Clone, Copy)]
 pub struct Statement {
     pub kind: StatementKind,
     pub a: u8,
@@ -22,7 +22,7 @@ pub struct Statement {
 
 // What the tables take of a statement: the definition of the variable that it works on, the region of the variable that
 // it defines, and whether that one is centered.
-#[derive(Drop)]
+#[derive(Clone, Copy)]
 pub struct StatementEntry {
     pub operand: u8,
     pub region: u8,

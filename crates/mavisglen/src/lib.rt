@@ -1,4 +1,6 @@
 // The entry points for C and Rust: an answer comes as one number.
+#![tactic(auto)]
+
 ghost use Rattle.std.specs.Prelude.{◌≡◌};
 ghost use Rattle.model.specs.Packed.{tagged, pack as packedTag, refusal_tag, packed, packed_by, written_packing, charge_packing};
 ghost use Rattle.model.specs.Provenance.{asking};

@@ -1,7 +1,8 @@
 // The types that the definitions in specs/ share with the code of the other crates.
+#![tactic(auto)]
 
 // Why a plan or a data set is refused, and at which place. Behind each: number and word of the format paper.
-#[derive(Drop)]
+#[derive(Clone, Copy)]
 pub enum Refusal {
     Truncated(usize), // 1 Short: the section, 0 for no bytes
     UnknownEdition, // 2 Edition: place 0
@@ -22,7 +23,7 @@ pub enum Refusal {
     InvalidCharge(usize), // 17 Unpriced: 1 a node does not exist, 2 the two differ in region, 3 the price is too high
 }
 
-#[derive(Drop)]
+#[derive(Clone, Copy)]
 pub enum Answer {
     Accepted {
         symbols: usize,
@@ -33,14 +34,14 @@ pub enum Answer {
 }
 
 // What an entry point that writes a list says: how long the list is.
-#[derive(Drop)]
+#[derive(Clone, Copy)]
 pub enum Written {
     Length(usize),
     Refused(Refusal),
 }
 
 // What charging says: how many elements are fetched, and their price in whole cents and thousandths of a cent.
-#[derive(Drop)]
+#[derive(Clone, Copy)]
 pub enum Charge {
     Charged {
         count: usize,
@@ -51,7 +52,7 @@ pub enum Charge {
 }
 
 // What an answer tells: number and place of a refusal, 0 and 0 on acceptance; the counts of an acceptance, 0 on refusal.
-#[derive(Drop)]
+#[derive(Clone, Copy)]
 pub struct Report {
     pub number: usize,
     pub place: usize,
@@ -61,7 +62,7 @@ pub struct Report {
 }
 
 // What such an answer tells: number and place of a refusal, 0 and 0 where a list was written; its length, 0 on refusal.
-#[derive(Drop)]
+#[derive(Clone, Copy)]
 pub struct WrittenReport {
     pub number: usize,
     pub place: usize,
@@ -69,7 +70,7 @@ pub struct WrittenReport {
 }
 
 // What a charge tells: number and place of a refusal, 0 and 0 where it was made; its three numbers, 0 on refusal.
-#[derive(Drop)]
+#[derive(Clone, Copy)]
 pub struct ChargeReport {
     pub number: usize,
     pub place: usize,
@@ -79,7 +80,7 @@ pub struct ChargeReport {
 }
 
 // "Given node, piece and element": why does this piece of this node hold this element?
-#[derive(Drop)]
+#[derive(Clone, Copy)]
 pub struct Question {
     pub node: usize,
     pub piece: usize,
@@ -87,14 +88,14 @@ pub struct Question {
 }
 
 // A pair of the chain that answers it: the node's piece holds the element.
-#[derive(Drop)]
+#[derive(Clone, Copy)]
 pub struct Pair {
     pub node: usize,
     pub element: usize,
 }
 
 // What is to be charged: "a node for what is accessed, a node for what is owned and a price in cents per thousand elements".
-#[derive(Drop)]
+#[derive(Clone, Copy)]
 pub struct Transfer {
     pub accessed: usize,
     pub owned: usize,
@@ -102,14 +103,14 @@ pub struct Transfer {
 }
 
 // What one check of several says.
-#[derive(Drop)]
+#[derive(Clone, Copy)]
 pub enum Outcome {
     Pass,
     Refuse(Refusal),
 }
 
 // The kinds of a loop's statements, in the order of their bytes.
-#[derive(Drop)]
+#[derive(Clone, Copy)]
 pub enum StatementKind {
     For,
     Load,
@@ -122,7 +123,7 @@ pub enum StatementKind {
 }
 
 // The kinds of section 5's nodes, in the order of their bytes.
-#[derive(Drop)]
+#[derive(Clone, Copy)]
 pub enum NodeKind {
     Supplied,
     Equal,
@@ -135,7 +136,7 @@ pub enum NodeKind {
 }
 
 // What a statement does to the element that it touches.
-#[derive(Drop)]
+#[derive(Clone, Copy)]
 pub enum Access {
     Nothing,
     Reads,
@@ -144,7 +145,7 @@ pub enum Access {
 }
 
 // What a lemma step shows: SUB(x, y), DISJ(x) or COMP(x).
-#[derive(Drop)]
+#[derive(Clone, Copy)]
 pub enum Conclusion {
     Subset,
     Disjoint,
@@ -152,7 +153,7 @@ pub enum Conclusion {
 }
 
 // A row of the lemma table: the form of the conclusion, and which of a step's numbers are used.
-#[derive(Drop)]
+#[derive(Clone, Copy)]
 pub struct Lemma {
     pub conclusion: Conclusion,
     pub x: bool,

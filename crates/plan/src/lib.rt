@@ -1,4 +1,6 @@
 // Reads and checks partition plans.
+#![tactic(auto)]
+
 ghost use Rattle.layout.specs.Frames.{Laid};
 ghost use Rattle.model.specs.Promises.{CheckPromise};
 ghost use Rattle.plan.specs.Reading.{ReadPromise};
@@ -16,7 +18,7 @@ mod records;
 mod sections;
 
 // What reading a plan gives: the answer and, after acceptance, where its sections end and the region of each node.
-#[derive(Drop)]
+#[derive(Clone, Copy)]
 pub struct Reading {
     pub answer: Answer,
     pub frame: Frame,

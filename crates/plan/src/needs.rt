@@ -31,14 +31,14 @@ pub const UNLISTED_BOUND: u32 = 196608;
 pub const NO_NEED: u32 = 196609;
 
 // The outcome of the needs and, after a pass, the first step that concludes each, at the need's place.
-#[derive(Drop)]
+#[derive(Clone, Copy)]
 pub struct SettledNeeds {
     pub outcome: Outcome,
     pub steps: [u8; 128],
 }
 
 // Where a search over the steps ends.
-#[derive(Drop)]
+#[derive(Clone, Copy)]
 pub enum Found {
     At(usize),
     Nowhere,

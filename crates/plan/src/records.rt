@@ -21,7 +21,7 @@ use primitives::outcomes::and_then;
 use primitives::sections::{Frame, MAPS, NODES, REGIONS, STATEMENTS, STEPS, SUPPLIED};
 
 // The outcome of all records and, after a pass, the region of each node.
-#[derive(Drop)]
+#[derive(Clone, Copy)]
 pub struct CheckedRecords {
     pub outcome: Outcome,
     pub node_regions: [u8; 48],

@@ -1,4 +1,6 @@
 // What every reader of bytes stands on: bytes as numbers, checks in a row, entries of tables, bodies of sections, cells of shared records.
+#![tactic(auto)]
+
 pub mod bytes;
 pub mod lookup;
 pub mod outcomes;

@@ -30,7 +30,7 @@ pub const ENTRIES: usize = 2;
 pub const MEMBERS: usize = 3;
 
 // The place after so many sections, for none to 8 of them; 0 for more than were read.
-#[derive(Drop)]
+#[derive(Clone, Copy)]
 pub struct Frame {
     pub boundaries: [usize; 9],
 }

@@ -15,7 +15,7 @@ use primitives::lookup::usize_at;
 use primitives::records::node_kind;
 
 // The pairs of a chain, node and element by position, and how many there are.
-#[derive(Drop)]
+#[derive(Clone, Copy)]
 pub struct Chain {
     pub nodes: [u16; 48],
     pub elements: [u16; 48],

@@ -1,4 +1,6 @@
 // Explains why a piece of a node holds an element.
+#![tactic(auto)]
+
 ghost use Rattle.model.specs.Provenance.{asking};
 ghost use Rattle.model.specs.Promises.{ExplanationPromise};
 

@@ -1,5 +1,7 @@
 // Evaluates the plan of the file plan.bin over the data set of the file data.bin, and prints the answer and, for each symbol
 // and piece, the members.
+#![tactic(auto)]
+
 ghost use Rattle.std.specs.Prelude.{◌≡◌, length};
 ghost use Rattle.model.specs.Evaluation.{MOST_WORDS};
 ghost use Rattle.report.specs.Buffers.{plan_bytes, data_bytes};

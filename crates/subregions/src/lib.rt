@@ -1,4 +1,6 @@
 // Fills the words of a plan's nodes with their subregions.
+#![tactic(auto)]
+
 pub mod fill;
 pub mod needed;
 mod operators;
@@ -6,7 +8,7 @@ mod pieces;
 
 // Which sets are filled: of the first `nodes` nodes, where they are needed (node j's bit j), those of `count` pieces from
 // piece `first` on, out of `pieces`.
-#[derive(Drop)]
+#[derive(Clone, Copy)]
 pub struct Span {
     pub nodes: usize,
     pub needed: u64,

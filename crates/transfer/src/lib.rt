@@ -1,4 +1,6 @@
 // Charges for what the tasks of a plan must fetch.
+#![tactic(auto)]
+
 ghost use Rattle.model.specs.Transfers.{transferring};
 ghost use Rattle.model.specs.Promises.{ChargePromise};
 
