@@ -7,22 +7,16 @@ use Rattle.model.specs.declared.Refusal.{Refusal}
 use Rattle.model.specs.declared.Answer.{Answer}
 use Rattle.model.specs.declared.Answer.TheVariants.{Refused}
 use Rattle.model.proofs.Answers.{no-counts}
-use Rattle.answers.proofs.report_answer.Statement.{statement}
-use Rattle.answers.proofs.report_answer.Tie as tie
+use Rattle.answers.proofs.report_answer.Goals as goal
 
 refused :
     {a : Answer} {r : Refusal} {n p : ℕ} → a ≡ Refused r → n ≡ (refusalReport r).number → p ≡ (refusalReport r).place → refusal n p ≡ report a
 unfolding report
 refused {r} is number place = rw (is, number, place) (sym (no-counts r))
 
-returns : tie.Need-returns
+pub returns-in-Accepted : goal.returns-in-Accepted
 unfolding report
-returns c = rw c.before.answer.given.1
+returns-in-Accepted c = rw c.in-Accepted.is
 
-returns-2 : tie.Need-returns-2
-returns-2 c = refused c.before.before.before.answer2.given.1 c.before.refusal-number.ensures c.refusal-place.ensures
-
-pub report-answer-spec : {M : Type 1} → statement M
-report-answer-spec =
-    tie.close
-    (tie.spec (λ c. search rules) (λ c. search rules) (λ c κs. search rules) (λ c κs. search rules) returns returns-2)
+pub returns-in-Refused : goal.returns-in-Refused
+returns-in-Refused c = refused c.in-Refused.is c.refusal_number.ensures c.refusal_place.ensures

@@ -1,0 +1,12 @@
+-- By the two cases of the answer. Assumes nothing.
+use borrow.Author.Rules.{rules}
+use Rattle.model.specs.Answers.{chargeReport}
+use Rattle.answers.proofs.report_charge.Goals as goal
+
+pub returns-in-Charged : goal.returns-in-Charged
+unfolding chargeReport
+returns-in-Charged c = rw c.in-Charged.is
+
+pub returns-in-Refused : goal.returns-in-Refused
+unfolding chargeReport
+returns-in-Refused c = rw (c.in-Refused.is, c.refusal_number.ensures, c.refusal_place.ensures)

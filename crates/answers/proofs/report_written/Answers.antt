@@ -1,0 +1,12 @@
+-- By the two cases of the answer. Assumes nothing.
+use borrow.Author.Rules.{rules}
+use Rattle.model.specs.Answers.{writtenReport}
+use Rattle.answers.proofs.report_written.Goals as goal
+
+pub returns-in-Length : goal.returns-in-Length
+unfolding writtenReport
+returns-in-Length c = rw c.in-Length.is
+
+pub returns-in-Refused : goal.returns-in-Refused
+unfolding writtenReport
+returns-in-Refused c = rw (c.in-Refused.is, c.refusal_number.ensures, c.refusal_place.ensures)
