@@ -1,0 +1,13 @@
+-- The four bytes are those of node j of every plan with this section. Assumes nothing.
+use borrow.Author.Rules.{rules}
+use Rattle.expressions.proofs.nodes.node_at.Goals as goal
+
+pub returns : goal.returns
+returns c =
+    let unused = c.byte_at-unused.ensures in
+    let b = c.byte_at-b.ensures in
+    let a = c.byte_at-a.ensures in
+    let kind = c.byte_at-kind.ensures in (
+      record { kind = kind.1; a = a.1; b = b.1 },
+      λ P is. record { kind = rw is kind.0; a = rw is a.0; b = rw is b.0; unused = rw is unused.0 },
+    )

@@ -1,0 +1,20 @@
+-- By the four cases of an access. Assumes nothing.
+use borrow.Author.Rules.{rules}
+use Rattle.model.specs.Statements.{is_access}
+use Rattle.loops.proofs.kinds.is_access.Goals as goal
+
+pub returns-in-Nothing : goal.returns-in-Nothing
+unfolding is_access
+returns-in-Nothing c = rw c.in-Nothing.is
+
+pub returns-in-Reads : goal.returns-in-Reads
+unfolding is_access
+returns-in-Reads c = rw c.in-Reads.is
+
+pub returns-in-Writes : goal.returns-in-Writes
+unfolding is_access
+returns-in-Writes c = rw c.in-Writes.is
+
+pub returns-in-Reduces : goal.returns-in-Reduces
+unfolding is_access
+returns-in-Reduces c = rw c.in-Reduces.is

@@ -1,0 +1,36 @@
+-- By the eight kinds. Assumes nothing.
+use borrow.Author.Rules.{rules}
+use Rattle.model.specs.Statements.{opens_loop}
+use Rattle.loops.proofs.kinds.opens_loop.Goals as goal
+
+pub returns-in-For : goal.returns-in-For
+unfolding opens_loop
+returns-in-For c = rw c.in-For.is
+
+pub returns-in-Load : goal.returns-in-Load
+unfolding opens_loop
+returns-in-Load c = rw c.in-Load.is
+
+pub returns-in-Call : goal.returns-in-Call
+unfolding opens_loop
+returns-in-Call c = rw c.in-Call.is
+
+pub returns-in-Copy : goal.returns-in-Copy
+unfolding opens_loop
+returns-in-Copy c = rw c.in-Copy.is
+
+pub returns-in-Read : goal.returns-in-Read
+unfolding opens_loop
+returns-in-Read c = rw c.in-Read.is
+
+pub returns-in-Write : goal.returns-in-Write
+unfolding opens_loop
+returns-in-Write c = rw c.in-Write.is
+
+pub returns-in-Reduce : goal.returns-in-Reduce
+unfolding opens_loop
+returns-in-Reduce c = rw c.in-Reduce.is
+
+pub returns-in-Unknown : goal.returns-in-Unknown
+unfolding opens_loop
+returns-in-Unknown c = rw c.in-Unknown.is
