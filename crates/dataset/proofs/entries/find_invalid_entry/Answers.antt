@@ -14,13 +14,13 @@ loop-element-init c = scanning_start _ _
 pub returns-then-not-entry_fits : goal.returns-then-not-entry_fits
 unfolding require
 returns-then-not-entry_fits c =
-    let fails = sym c.entry_fits.ensures ∙ not-true _ c.if-not-entry_fits.true in
+    let fails = sym c.entry_fits.ensures ∙ c.if-not-entry_fits.true in
     scanning_refused c.loop-element.invariant c.loop-element-test.true (sym (rw (← c.u16_inside-entry.ensures, fails))) refl
 
 pub loop-element-preserved : goal.loop-element-preserved
 unfolding require
 loop-element-preserved c =
-    let fits = sym c.entry_fits.ensures ∙ not-false _ c.if-not-entry_fits.false in
+    let fits = sym c.entry_fits.ensures ∙ c.if-not-entry_fits.false in
     scanning_next c.loop-element.invariant c.loop-element-test.true refl (rw (← c.u16_inside-entry.ensures, fits))
 
 pub returns : goal.returns

@@ -24,7 +24,7 @@ unfolding require
 returns-then-not-partition_keeps_flags c =
     λ P D known placed.
     let lt : c.loop-partition.partition < supplied_count P = rw known.supplied_are c.loop-partition-test.true in
-    let fails = sym (c.partition_keeps_flags.ensures P D known (placed.begin _ lt)) ∙ not-true _ c.if-not-partition_keeps_flags.true in
+    let fails = sym (c.partition_keeps_flags.ensures P D known (placed.begin _ lt)) ∙ c.if-not-partition_keeps_flags.true in
     scanning_refused (c.loop-partition.invariant.2 P D known placed) lt (sym (rw fails)) refl
 
 pub loop-partition-preserved : goal.loop-partition-preserved
@@ -35,7 +35,7 @@ loop-partition-preserved c =
       search rules,
       λ P D known placed.
           let lt : c.loop-partition.partition < supplied_count P = rw known.supplied_are c.loop-partition-test.true in
-          let right = sym (c.partition_keeps_flags.ensures P D known (placed.begin _ lt)) ∙ not-false _ c.if-not-partition_keeps_flags.false in
+          let right = sym (c.partition_keeps_flags.ensures P D known (placed.begin _ lt)) ∙ c.if-not-partition_keeps_flags.false in
           scanning_next (c.loop-partition.invariant.2 P D known placed) lt refl (rw right),
     )
 

@@ -15,7 +15,7 @@ use Rattle.dataset.proofs.supplied.check_supplied.Given as goal
 abbrev pub invariant-loop-partition : goal.invariant-loop-partition
 invariant-loop-partition l = (l.count ≡ length l.supplied / 2)
     × (l.partition ≤ l.count)
-    × ((P : Plan) (D : DataSet) → SuppliedSources P D l.supplied l.piece_count_lem l.sizes l.members → MembersPlaced P D l.starts →
+    × ((P : Plan) (D : DataSet) → SuppliedSources P D l.supplied l.piece_count l.sizes l.members → MembersPlaced P D l.starts →
     Scanning (partition_check P D) (supplied_count P) l.partition)
 
 abbrev pub decreases-loop-partition : goal.decreases-loop-partition

@@ -16,7 +16,7 @@ use Rattle.subregions.proofs.fill.fill_nodes.Given as goal
 
 abbrev pub invariant-loop-j : goal.invariant-loop-j
 invariant-loop-j l = (l.j ≤ l.span.nodes) × (length l.words ≡ length l.initial.words)
-    × ((P : Plan) (d : Bytes) → FillSources P d l.nodes l.node_regions_lem l.sizes l.entries l.members l.entry_starts l.member_starts l.span (length l.initial.words)
+    × ((P : Plan) (d : Bytes) → FillSources P d l.nodes l.node_regions l.sizes l.entries l.members l.entry_starts l.member_starts l.span (length l.initial.words)
     → l.words ≡ filled_up_to P (data_of d) l.span l.initial.words l.j)
 
 abbrev pub decreases-loop-j : goal.decreases-loop-j

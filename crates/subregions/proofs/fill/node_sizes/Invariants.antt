@@ -15,7 +15,7 @@ use Rattle.subregions.proofs.fill.node_sizes.Given as goal
 
 abbrev pub invariant-loop-j : goal.invariant-loop-j
 invariant-loop-j l = (l.j ≤ l.count) × (length l.table ≡ 48)
-    × ((P : Plan) (d : Bytes) → SizeSources P d l.sizes l.node_regions_lem l.count → NodeSizes P (data_of d) l.table l.j)
+    × ((P : Plan) (d : Bytes) → SizeSources P d l.sizes l.node_regions l.count → NodeSizes P (data_of d) l.table l.j)
 
 abbrev pub decreases-loop-j : goal.decreases-loop-j
 decreases-loop-j l = l.count - l.j

@@ -31,7 +31,7 @@ overflow_mul-lowest c = omega (arith, (found c).inside)
 pub overflow_add-start : goal.overflow_add-start
 overflow_add-start c =
     let n = found c in
-    omega (arith, c.requires.inside _ n.inside (c.loop-rest.invariant.1 _ n.member), c.well-formed)
+    omega (arith, c.requires.inside _ n.inside (c.loop-rest.invariant.1 _ n.member), c.well_formed)
 
 -- its entry is there
 pub target-e-requires : goal.target-e-requires

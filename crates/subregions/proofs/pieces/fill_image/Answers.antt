@@ -23,7 +23,7 @@ image_piece-piece-requires c =
 
 pub loop-i-preserved : goal.loop-i-preserved
 loop-i-preserved c =
-    image_next c.requires c.region-masks.ensures c.loop-i.invariant c.loop-test.true
+    image_next c.requires c.region_masks-masks.ensures c.loop-i.invariant c.loop-i-test.true
     c.image_piece-piece.ensures c.write_piece.ensures
 
 pub returns : goal.returns

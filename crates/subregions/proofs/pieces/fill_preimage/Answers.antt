@@ -15,17 +15,17 @@ loop-i-init c = pieces_none
 pub operand_set-set-requires : goal.operand_set-set-requires
 operand_set-set-requires c =
     let room = c.requires in
-    (omega (arith, room.operand_before, room.room, c.loop-i.invariant.as_long), c.region-masks.ensures.eight)
+    (omega (arith, room.operand_before, room.room, c.loop-i.invariant.as_long), c.region_masks-masks.ensures.eight)
 
 pub preimage_piece-piece-requires : goal.preimage_piece-piece-requires
 preimage_piece-piece-requires c =
     let room = c.requires in
-    preimage_piece_room _ _ _ _ _ _ _ _ _ room.few_targets c.region_masks-masks.ensures c.targets.ensures
+    preimage_piece_room _ _ _ _ _ _ _ _ _ room.few_targets c.region_masks-masks.ensures c.targets-table.ensures
     c.operand_set-set.ensures room.few_elements
 
 pub loop-i-preserved : goal.loop-i-preserved
 loop-i-preserved c =
-    preimage_next c.requires c.region_masks-masks.ensures c.targets.ensures c.loop-i.invariant c.loop-test.true
+    preimage_next c.requires c.region_masks-masks.ensures c.targets-table.ensures c.loop-i.invariant c.loop-i-test.true
     c.operand_set-set.ensures c.preimage_piece-piece.ensures c.write_piece.ensures
 
 pub returns : goal.returns

@@ -9,7 +9,7 @@ use borrow.Author.Rules.{rules}
 use Rattle.subregions.proofs.pieces.fill_supplied.Given as goal
 
 abbrev pub invariant-loop-i : goal.invariant-loop-i
-invariant-loop-i l = PiecesWritten l.initial.words l.at (pieces_from l.first (supplied_pieces l.members l.from l.size)) l.count l.words l.i
+invariant-loop-i l = PiecesWritten l.initial.words l.at (pieces_from l.first (supplied_pieces l.members l.from l.size)) l.i-end l.words l.i
 
 abbrev pub decreases-loop-i : goal.decreases-loop-i
-decreases-loop-i l = l.count - l.i
+decreases-loop-i l = l.i-end - l.i

@@ -11,7 +11,7 @@ loop-i-init c = pieces_none
 
 pub loop-i-preserved : goal.loop-i-preserved
 loop-i-preserved c =
-    combined_next Union _ c.requires c.region-masks.ensures c.loop-i.invariant c.loop-test.true
+    combined_next Union _ c.requires c.region_masks-masks.ensures c.loop-i.invariant c.loop-i-test.true
     c.combined_piece-piece.ensures c.write_piece.ensures
 
 pub returns : goal.returns
