@@ -7,6 +7,10 @@ use Rattle.primitives.proofs.Searches.{every_next, every_end}
 use borrow.Author.Rules.{rules}
 use Rattle.dataset.proofs.entries.entries_fit.Goals as goal
 
+pub loop-element-init : goal.loop-element-init
+unfolding every
+loop-element-init c = search rules
+
 pub loop-element-preserved : goal.loop-element-preserved
 unfolding ◌and◌
 loop-element-preserved c =

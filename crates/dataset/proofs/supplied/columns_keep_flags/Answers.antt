@@ -7,6 +7,10 @@ use Rattle.primitives.proofs.Searches.{every_next, every_end}
 use borrow.Author.Rules.{rules}
 use Rattle.dataset.proofs.supplied.columns_keep_flags.Goals as goal
 
+pub loop-column-init : goal.loop-column-init
+unfolding every
+loop-column-init c = search rules
+
 pub loop-column-preserved : goal.loop-column-preserved
 unfolding ◌and◌
 loop-column-preserved c =

@@ -16,6 +16,10 @@ place c =
     let a = c.args in
     omega (arith, piece_inside c.loop-piece.piece a.pieces ((a.size + 7) / 8) c.loop-piece-test.true)
 
+pub loop-piece-init : goal.loop-piece-init
+unfolding united repeated
+loop-piece-init c = search rules
+
 pub overflow_mul-piece : goal.overflow_mul-piece
 overflow_mul-piece c = omega (arith, place c)
 

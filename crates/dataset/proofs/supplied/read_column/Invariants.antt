@@ -11,8 +11,8 @@ use Rattle.dataset.proofs.supplied.read_column.Given as goal
 abbrev pub invariant-loop-piece : goal.invariant-loop-piece
 invariant-loop-piece l = (l.width ≡ (l.size + 7) / 8)
     × (l.piece ≤ l.pieces)
-    × (l.some ≡ united (piece_word l.members l.start ((l.size + 7) / 8) l.column) l.piece)
-    × (l.two ≡ repeated (piece_word l.members l.start ((l.size + 7) / 8) l.column) l.piece)
+    × (l.seen ≡ united (piece_word l.members l.start ((l.size + 7) / 8) l.column) l.piece)
+    × (l.repeated ≡ repeated (piece_word l.members l.start ((l.size + 7) / 8) l.column) l.piece)
 
 abbrev pub decreases-loop-piece : goal.decreases-loop-piece
 decreases-loop-piece l = l.pieces - l.piece
