@@ -16,4 +16,4 @@ returns c =
     λ P known e. rw (c.and_then.ensures, c.require-2.ensures, c.require.ensures)
     (assigned_check P _ (sym (c.has_symbol.ensures P known.statements_are) ∙ c.if-not-has_symbol.false) known.tables
     (node_of_plan P _ known.assignments_are e c.byte_at-node.ensures.0) known.nodes_are c.byte_at.ensures.0
-    (c.symbol_region_lem.ensures P known.statements_are known.tables.variables) (ap (6 * 256 +◌) e))
+    (c.symbol_region-region.ensures P known.statements_are known.tables.variables) (ap (6 * 256 +◌) e))

@@ -8,96 +8,25 @@ use Rattle.model.specs.Layout.{Plan, statement_count}
 use Rattle.plan.specs.Needs.{NeedSources}
 use Rattle.plan.proofs.NeedTables.{NeedsTurn, NeedsSoFar, turn_starts, needs_start, needs_next}
 use Rattle.plan.proofs.needs.list_needs.Goals as goal
-use Rattle.plan.proofs.needs.list_needs.Goals.{After-byte_at-operand, In-loop-s, Start}
-
--- where the pass starts, from the turn of a statement
-abbrev start_of : In-loop-s → Start
-start_of c = turn.before.before.before.before.before.before
 
 pub loop-s-init : goal.loop-s-init
 loop-s-init c = let fit = c.requires in (turn_starts fit, λ P known. needs_start fit P)
 
-pub byte_at-node-requires : goal.byte_at-node-requires
-byte_at-node-requires c = search auto
-
-pub byte_at-operand-requires : goal.byte_at-operand-requires
-byte_at-operand-requires c = search auto
-
-pub earlier_byte-followed-requires : goal.earlier_byte-followed-requires
-earlier_byte-followed-requires c = search auto
-
 pub variable_bound-defined-requires : goal.variable_bound-defined-requires
 variable_bound-defined-requires c =
-    let few = (start_of (goal.at.variable_bound-defined-requires c).In-loop-s).pre.few_nodes in
+    let few = c.requires.few_nodes in
     let small = c.earlier_byte-followed.ensures.1 (omega arith) in
     search auto
 
-pub overflow_cast-bounds : goal.overflow_cast-bounds
-overflow_cast-bounds c = search auto
-
-pub bounds-bounds-s : goal.bounds-bounds-s
-bounds-bounds-s c = search auto
-
-pub slice_bounds-byte_at-end : goal.slice_bounds-byte_at-end
-slice_bounds-byte_at-end c = search auto
-
-pub byte_at-bound-requires : goal.byte_at-bound-requires
-byte_at-bound-requires c = search auto
-
-pub kind_at-requires : goal.kind_at-requires
-kind_at-requires c = search auto
-
-pub first_need-requires : goal.first_need-requires
-first_need-requires c = search auto
-
-pub overflow_mul-needs : goal.overflow_mul-needs
-overflow_mul-needs c = search auto
-
-pub offset_bounds-needs-s : goal.offset_bounds-needs-s
-offset_bounds-needs-s c = search auto
-
-pub bounds-needs-s : goal.bounds-needs-s
-bounds-needs-s c = search auto
-
-pub needs_disjoint-reduces-requires : goal.needs_disjoint-reduces-requires
-needs_disjoint-reduces-requires c = search auto
-
-pub second_need-requires : goal.second_need-requires
-second_need-requires c = search auto
-
-pub overflow_mul-needs-in-loop-s : goal.overflow_mul-needs-in-loop-s
-overflow_mul-needs-in-loop-s c = search auto
-
-pub overflow_add-needs : goal.overflow_add-needs
-overflow_add-needs c = search auto
-
-pub offset_bounds-needs-s-in-loop-s : goal.offset_bounds-needs-s-in-loop-s
-offset_bounds-needs-s-in-loop-s c = search auto
-
-pub bounds-needs-s-in-loop-s : goal.bounds-needs-s-in-loop-s
-bounds-needs-s-in-loop-s c = search auto
-
-pub overflow_cast-symbols : goal.overflow_cast-symbols
-overflow_cast-symbols c = search auto
-
-pub bounds-symbols-s : goal.bounds-symbols-s
-bounds-symbols-s c = search auto
-
-pub next_symbol-symbol-requires : goal.next_symbol-symbol-requires
-next_symbol-symbol-requires c = search auto
-
 pub overflow_add-s : goal.overflow_add-s
 overflow_add-s c =
-    let few = (start_of (goal.at.overflow_add-s c).After-byte_at-operand).pre.few_statements in
+    let few = c.requires.few_statements in
     search auto
-
-pub loop-s-smaller : goal.loop-s-smaller
-loop-s-smaller c = search auto
 
 pub loop-s-preserved : goal.loop-s-preserved
 loop-s-preserved c =
     let l = c.loop-s in
-    let fit = (start_of (goal.at.loop-s-preserved c).After-byte_at-operand).requires in
+    let fit = c.requires in
     let few : l.s < 64 = omega (arith, fit.few_statements, c.loop-s-test.true) in (
       record {
         inside = omega (arith, c.loop-s-test.true);

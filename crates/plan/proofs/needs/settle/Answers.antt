@@ -1,6 +1,5 @@
 -- Before each need, what is left to settle decides; before each step, what is left to search finds the need's step. Assumes nothing.
 use Prim.Native.Nat.{ℕ, ◌-◌}
-use mathlib.Core.Logic.{⊎_elim}
 use native.Mathlib.Omega.{arith}
 use lib.ListN.{get_or, length-replicate}
 use borrow.Author.Rules.{rules as auto}
@@ -10,31 +9,21 @@ use Rattle.model.proofs.Tests.{same! }
 use Rattle.primitives.proofs.Searching.{Searching, searching_start, searching_next, searching_found, searching_end}
 use Rattle.plan.proofs.Settling.{Searched, SettledBefore, settling_starts, settling_unasked, settling_found, settling_unmet, settling_ends}
 use Rattle.plan.proofs.needs.settle.Goals as goal
-use Rattle.plan.proofs.needs.settle.Goals.{Joined-t-steps}
+use Rattle.plan.proofs.needs.settle.Goals.{Joined-t-steps, then-t-steps, else-t-steps+then-conclusions-t}
 
 -- what the search ended with
-searched : (c : Joined-t-steps invariant-steps decreases-steps invariant-needs decreases-needs) →
+searched : (c : Joined-t-steps) →
     (let need = get_or c.args.needs.now c.needs.i 0 in
     Searched c.args.conclusions.now c.args.steps need c.if-t-steps.found)
 searched c =
     let past = c.steps.invariant in
-    ⊎_elim (λ w. rw (w.1, ← searching_end past w.0.taken) w.0.taken) (λ w. rw w.3 (searching_found past w.0.left (same! w.2.taken), w.0.left))
-    c.if-t-steps.branch
+    elim c.if-t-steps.branch [
+      | then-t-steps w ↦ rw (w.found-is, ← searching_end past w.if-t-steps.true) w.if-t-steps.true
+      | else-t-steps+then-conclusions-t w ↦ rw w.found-is (searching_found past w.if-t-steps.false (same! w.if-conclusions-t.true), w.if-t-steps.false)
+    ]
 
 pub needs-init : goal.needs-init
 needs-init c = settling_starts _ _ _ _ _ (length-replicate {A = ℕ} 128 0)
-
-pub offset_bounds-needs-i : goal.offset_bounds-needs-i
-offset_bounds-needs-i c = search auto
-
-pub bounds-needs-i : goal.bounds-needs-i
-bounds-needs-i c = search auto
-
-pub overflow_add-i : goal.overflow_add-i
-overflow_add-i c = search auto
-
-pub needs-smaller-then-need-eq-NO_NEED : goal.needs-smaller-then-need-eq-NO_NEED
-needs-smaller-then-need-eq-NO_NEED c = search auto
 
 pub needs-preserved-then-need-eq-NO_NEED : goal.needs-preserved-then-need-eq-NO_NEED
 needs-preserved-then-need-eq-NO_NEED c =
@@ -43,53 +32,20 @@ needs-preserved-then-need-eq-NO_NEED c =
 pub steps-init : goal.steps-init
 steps-init c = searching_start _ _
 
-pub offset_bounds-conclusions-t : goal.offset_bounds-conclusions-t
-offset_bounds-conclusions-t c = search auto
-
-pub bounds-conclusions-t : goal.bounds-conclusions-t
-bounds-conclusions-t c = search auto
-
-pub overflow_add-t : goal.overflow_add-t
-overflow_add-t c = search auto
-
-pub steps-smaller : goal.steps-smaller
-steps-smaller c = search auto
-
 pub steps-preserved : goal.steps-preserved
 unfolding ◌==◌
 steps-preserved c =
     searching_next c.steps.invariant c.if-t-steps.false (ne_eqb _ _ c.if-conclusions-t.false)
-
-pub enum_known-found : goal.enum_known-found
-enum_known-found c = search auto
 
 pub overflow_cast-found_steps : goal.overflow_cast-found_steps
 overflow_cast-found_steps c =
     let at = rw c.in-At.is at (searched (goal.at.overflow_cast-found_steps c).Joined-t-steps) in
     omega (arith, at.1, c.requires.1)
 
-pub bounds-found_steps-i : goal.bounds-found_steps-i
-bounds-found_steps-i c = search auto
-
-pub enum_told-1 : goal.enum_told-1
-enum_told-1 c = search auto
-
-pub byte_at-requires : goal.byte_at-requires
-byte_at-requires c = search auto
-
-pub unmet_need-requires : goal.unmet_need-requires
-unmet_need-requires c = search auto
-
 pub returns-in-Nowhere : goal.returns-in-Nowhere
 returns-in-Nowhere c =
     settling_unmet _ _ _ _ _ c.needs.invariant c.needs-test.true c.if-need-eq-NO_NEED.false
     (rw c.in-Nowhere.is at (searched (goal.at.returns-in-Nowhere c).Joined-t-steps)) c.unmet_need.ensures c.byte_at.ensures.0
-
-pub overflow_add-i-in-needs : goal.overflow_add-i-in-needs
-overflow_add-i-in-needs c = search auto
-
-pub needs-smaller : goal.needs-smaller
-needs-smaller c = search auto
 
 pub needs-preserved : goal.needs-preserved
 needs-preserved c =

@@ -12,7 +12,7 @@ use Rattle.plan.proofs.Settling.{Searched, SettledBefore, settling_starts, settl
 use Rattle.plan.proofs.needs.settle.Given as goal
 
 abbrev pub invariant-steps : goal.invariant-steps
-invariant-steps l = Searching (λ t'. get_or l.conclusions t' 0 == l.need) l.steps t'
+invariant-steps l = Searching (λ k. get_or l.conclusions k 0 == l.need) l.steps l.t
 
 abbrev pub decreases-steps : goal.decreases-steps
 decreases-steps l = l.steps - l.t
