@@ -8,14 +8,11 @@ use Rattle.model.specs.Fetches.{BothExist}
 use Rattle.model.specs.declared.Outcome.TheVariants.{Pass}
 use Rattle.transfer.proofs.Bills.{passed}
 use Rattle.transfer.proofs.bill.charge_transfer.Goals as goal
-use Rattle.transfer.proofs.bill.charge_transfer.Goals.{After-check_transfer, Start}
-
-abbrev start : After-check_transfer → Start
-start c = x.before.before.before
+use Rattle.transfer.proofs.bill.charge_transfer.Goals.{After-check_transfer}
 
 -- what is known of nodes and price
 allowed : (c : After-check_transfer) → c.check_transfer.result ≡ Pass →
-    (let a = (start x).args in BothExist (plan_of a.plan.now) a.transfer × (a.transfer.price ≤ 1000000))
+    (let a = c.args in BothExist (plan_of a.plan.now) a.transfer × (a.transfer.price ≤ 1000000))
 allowed c pass = passed _ _ (sym c.check_transfer.ensures ∙ pass)
 
 pub check_transfer-requires : goal.check_transfer-requires
@@ -27,7 +24,7 @@ returns-in-Refuse c = rw (sym c.check_transfer.ensures ∙ c.in-Refuse.is)
 
 pub count_fetched-count-requires : goal.count_fetched-count-requires
 count_fetched-count-requires c =
-    record { inputs = (start (goal.at.count_fetched-count-requires c).After-check_transfer).requires; both_exist = (allowed (goal.at.count_fetched-count-requires c).After-check_transfer c.in_default.is).0 }
+    record { inputs = c.requires; both_exist = (allowed (goal.at.count_fetched-count-requires c).After-check_transfer c.in_default.is).0 }
 
 pub price_elements-requires : goal.price_elements-requires
 price_elements-requires c =
