@@ -6,7 +6,7 @@ use Rattle.model.specs.Bytes.{Bytes}
 use Rattle.model.specs.Outcomes.{◌then◌, conclude}
 use Rattle.model.specs.Layout.{Plan, plan_of, layout_check, assignment_count, node_count, step_count}
 use Rattle.model.specs.Needs.{symbol_count, assignment_count_check}
-use Rattle.model.specs.Verdict.{records_check, accepted, plan_check, verdict}
+use Rattle.model.specs.Verdict.{records_check, plan_check, verdict}
 use Rattle.model.specs.declared.Refusal.{Refusal}
 use Rattle.model.specs.declared.Outcome.{Outcome}
 use Rattle.model.specs.declared.Outcome.TheVariants.{Pass, Refuse}

@@ -1,7 +1,6 @@
 -- By the two cases of the answer; a refusal's report has no counts. Assumes nothing.
 use Prim.Native.Nat.{ℕ}
 use mathlib.Core.Path.{◌≡◌, sym}
-use borrow.Author.Rules.{rules}
 use Rattle.model.specs.Answers.{refusal, refusalReport, report}
 use Rattle.model.specs.declared.Refusal.{Refusal}
 use Rattle.model.specs.declared.Answer.{Answer}

@@ -1,5 +1,4 @@
 -- By the two cases of the answer. Assumes nothing.
-use borrow.Author.Rules.{rules}
 use Rattle.model.specs.Answers.{chargeReport}
 use Rattle.answers.proofs.report_charge.Goals as goal
 

@@ -1,5 +1,4 @@
 -- By the two cases of the answer. Assumes nothing.
-use borrow.Author.Rules.{rules}
 use Rattle.model.specs.Answers.{writtenReport}
 use Rattle.answers.proofs.report_written.Goals as goal
 

@@ -3,7 +3,6 @@
 use Prim.Native.Nat.{◌*◌, ◌≤◌}
 use mathlib.Core.Path.{refl}
 use native.Mathlib.Omega.{arith}
-use borrow.Author.Rules.{rules}
 use Rattle.evaluate.proofs.Stages.{InputsPassed, plan_placed, plan_refused, layout_refused, contents_ready, contents_refused, inputs_passed, needed_few, words_lacking, words_ready, words_filled, refusal_given}
 use Rattle.evaluate.proofs.evaluate.Goals as goal
 use Rattle.evaluate.proofs.evaluate.Goals.{After-piece_count}

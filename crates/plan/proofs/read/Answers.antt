@@ -1,6 +1,5 @@
 -- The frame that was read is the plan's, and its layout passes; else the layout's refusal is the verdict (Verdict). Assumes nothing.
 use mathlib.Core.Path.{refl, sym, ◌∙◌, ap}
-use borrow.Author.Rules.{rules}
 use Rattle.layout.proofs.Frames.{laid}
 use Rattle.plan.proofs.Verdict.{refused_promise}
 use Rattle.plan.proofs.read.Goals as goal

@@ -2,7 +2,6 @@
 use Prim.Native.Nat.{◌/◌}
 use mathlib.Core.Path.{ap}
 use lib.ListN.{length}
-use borrow.Author.Rules.{rules}
 use Rattle.plan.proofs.Verdict.{laid_promise}
 use Rattle.plan.proofs.read_records.Goals as goal
 

@@ -1,11 +1,7 @@
 -- Stage by stage, what is left decides while all before passed (evaluate's Stages). Assumes nothing.
 -- the entry, from the plan's reading
 use mathlib.Core.Path.{◌≡◌}
-use borrow.Author.Rules.{rules}
-use Rattle.model.specs.Bytes.{Bytes}
 use Rattle.model.specs.Layout.{plan_of}
-use Rattle.model.specs.declared.Transfer.{Transfer}
-use Rattle.model.specs.declared.Outcome.{Outcome}
 use Rattle.model.specs.declared.Outcome.TheVariants.{Pass}
 use Rattle.model.specs.Transfers.{transferring, transfer_check}
 use Rattle.evaluate.proofs.Stages.{InputsPassed, plan_refused, plan_placed, layout_refused, contents_ready, contents_refused, inputs_passed}

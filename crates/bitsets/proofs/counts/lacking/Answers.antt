@@ -1,11 +1,9 @@
 -- Word by word, the sum so far. Assumes nothing.
-use Prim.Native.Nat.{◌+◌, ◌-◌, ◌*◌, ◌≤◌}
+use Prim.Native.Nat.{◌+◌}
 use mathlib.Core.Path.{◌≡◌, refl, ap₂, ◌∙◌}
 use native.Mathlib.Omega.{arith}
-use lib.ListN.{get_or}
-use Rattle.model.specs.Counting.{sum, ones, without, ones_lacking}
+use Rattle.model.specs.Counting.{sum, ones_lacking}
 use Rattle.model.proofs.Counting.{sum_next}
-use borrow.Author.Rules.{rules}
 use Rattle.bitsets.proofs.counts.lacking.Goals as goal
 
 pub loop-w-init : goal.loop-w-init

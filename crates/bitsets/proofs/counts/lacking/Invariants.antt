@@ -1,11 +1,8 @@
 -- Word by word, the sum so far. Assumes nothing.
 use Prim.Native.Nat.{◌+◌, ◌-◌, ◌*◌, ◌≤◌}
-use mathlib.Core.Path.{◌≡◌, refl, ap₂, ◌∙◌}
-use native.Mathlib.Omega.{arith}
+use mathlib.Core.Path.{◌≡◌}
 use lib.ListN.{get_or}
-use Rattle.model.specs.Counting.{sum, ones, without, ones_lacking}
-use Rattle.model.proofs.Counting.{sum_next}
-use borrow.Author.Rules.{rules}
+use Rattle.model.specs.Counting.{sum, ones, without}
 use Rattle.bitsets.proofs.counts.lacking.Given as goal
 
 abbrev pub invariant-loop-w : goal.invariant-loop-w

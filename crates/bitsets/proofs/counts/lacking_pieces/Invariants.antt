@@ -1,10 +1,7 @@
 -- Set by set, the sum so far. Assumes nothing.
-use Prim.Native.Nat.{ℕ, ◌+◌, ◌-◌, ◌*◌, ◌≤◌}
-use mathlib.Core.Path.{◌≡◌, refl, ap, ap₂, ◌∙◌}
-use native.Mathlib.Omega.{arith}
+use Prim.Native.Nat.{◌+◌, ◌-◌, ◌*◌, ◌≤◌}
+use mathlib.Core.Path.{◌≡◌}
 use Rattle.model.specs.Counting.{sum, ones_lacking}
-use Rattle.model.proofs.Counting.{sum_next}
-use borrow.Author.Rules.{rules}
 use Rattle.bitsets.proofs.counts.lacking_pieces.Given as goal
 
 abbrev pub invariant-loop-i : goal.invariant-loop-i

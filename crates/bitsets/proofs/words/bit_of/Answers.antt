@@ -6,7 +6,6 @@ use lib.Bits.{and_mask}
 use lib.ListN.{get_or}
 use Rattle.model.specs.Words.{bit, holds}
 use Rattle.model.proofs.Words.{digit_test}
-use borrow.Author.Rules.{rules}
 use Rattle.bitsets.proofs.words.bit_of.Goals as goal
 
 pub returns : goal.returns

@@ -1,5 +1,4 @@
 -- Each machine operation is its test, bit by bit. Assumes nothing.
-use borrow.Author.Rules.{rules}
 use Rattle.bitsets.proofs.Elements.{union_word, intersection_word, difference_word}
 use Rattle.bitsets.proofs.words.combine.Goals as goal
 

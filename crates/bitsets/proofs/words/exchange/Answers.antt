@@ -1,6 +1,5 @@
 -- Each bit comes from its partner's place, by the mask. Assumes nothing.
 use Rattle.bitsets.proofs.ByteOrder.{exchanged_word}
-use borrow.Author.Rules.{rules}
 use Rattle.bitsets.proofs.words.exchange.Goals as goal
 
 pub returns : goal.returns

@@ -4,7 +4,6 @@ use mathlib.Core.Path.{ap}
 use lib.Bits.{and_mask}
 use Rattle.model.specs.Tests.{◌==◌}
 use Rattle.model.specs.Words.{bit}
-use borrow.Author.Rules.{rules}
 use Rattle.bitsets.proofs.words.has_bit.Goals as goal
 
 pub returns : goal.returns

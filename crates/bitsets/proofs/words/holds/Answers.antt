@@ -3,7 +3,6 @@ use Prim.Native.Nat.{ℕ}
 use mathlib.Core.Path.{ap, ◌∙◌}
 use Rattle.model.specs.Tests.{◌==◌}
 use Rattle.model.proofs.Words.{test_digit}
-use borrow.Author.Rules.{rules}
 use Rattle.bitsets.proofs.words.holds.Goals as goal
 
 pub returns : goal.returns

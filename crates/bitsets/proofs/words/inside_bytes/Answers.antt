@@ -1,6 +1,5 @@
 -- The four pairs of bytes make up the eight. Assumes nothing.
 use Rattle.bitsets.proofs.ByteOrder.{eight_word}
-use borrow.Author.Rules.{rules}
 use Rattle.bitsets.proofs.words.inside_bytes.Goals as goal
 
 pub returns : goal.returns

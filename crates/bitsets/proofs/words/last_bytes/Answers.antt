@@ -1,10 +1,7 @@
 -- The loop puts the bytes together from the last one down; bytes past the end read as 0. Assumes nothing.
-use Prim.Native.Nat.{◌+◌, ◌-◌, ◌≤◌}
-use mathlib.Core.Path.{◌≡◌, refl}
+use mathlib.Core.Path.{refl}
 use native.Mathlib.Omega.{arith}
-use Rattle.model.specs.Bytes.{byte}
 use Rattle.bitsets.proofs.ByteOrder.{joined, joined_next, joined_last}
-use borrow.Author.Rules.{rules}
 use Rattle.bitsets.proofs.words.last_bytes.Goals as goal
 
 pub loop-i-init : goal.loop-i-init

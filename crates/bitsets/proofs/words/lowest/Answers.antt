@@ -1,7 +1,6 @@
 -- The number of zeros fits. Assumes nothing.
 use native.Mathlib.Omega.{arith}
 use lib.Count.{trailing_le}
-use borrow.Author.Rules.{rules}
 use Rattle.bitsets.proofs.words.lowest.Goals as goal
 
 pub overflow_cast-result : goal.overflow_cast-result

@@ -4,7 +4,6 @@ use native.Mathlib.Omega.{arith}
 use Rattle.model.proofs.Tests.{falsum, same, same! }
 use Rattle.model.proofs.Words.{bit_zero}
 use Rattle.primitives.proofs.Bits.{bit_power, one_shifted}
-use borrow.Author.Rules.{rules}
 use Rattle.bitsets.proofs.words.one_bit.Goals as goal
 
 pub returns-then-place-lt64 : goal.returns-then-place-lt64

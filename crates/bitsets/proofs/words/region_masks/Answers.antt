@@ -1,5 +1,4 @@
 -- Word by word. Assumes nothing.
-use borrow.Author.Rules.{rules}
 use Rattle.bitsets.proofs.Elements.{eight_words}
 use Rattle.bitsets.proofs.words.region_masks.Goals as goal
 

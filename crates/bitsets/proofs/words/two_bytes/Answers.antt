@@ -1,7 +1,6 @@
 -- The second byte shifted up, or the first. Assumes nothing.
 use native.Mathlib.Omega.{arith}
 use Rattle.primitives.proofs.Shifts.{shifted_or}
-use borrow.Author.Rules.{rules}
 use Rattle.bitsets.proofs.words.two_bytes.Goals as goal
 
 pub returns : goal.returns

@@ -2,7 +2,6 @@
 use Prim.Native.Nat.{◌+◌}
 use native.Mathlib.Omega.{arith}
 use Rattle.primitives.proofs.Shifts.{shifted_or}
-use borrow.Author.Rules.{rules}
 use Rattle.bitsets.proofs.words.u16_inside.Goals as goal
 
 pub overflow_cast-result : goal.overflow_cast-result

@@ -1,7 +1,6 @@
 -- By the three cases: none of the word's elements, all of them, the lowest ones. Assumes nothing.
 use native.Mathlib.Omega.{arith}
 use Rattle.bitsets.proofs.Elements.{below_none, below_all, below_some, some_below}
-use borrow.Author.Rules.{rules}
 use Rattle.bitsets.proofs.words.word_below.Goals as goal
 
 pub returns-then-count-first : goal.returns-then-count-first

@@ -1,6 +1,5 @@
 -- The elements below high that are not below low. Assumes nothing.
 use Rattle.bitsets.proofs.Elements.{between-word}
-use borrow.Author.Rules.{rules}
 use Rattle.bitsets.proofs.words.word_between.Goals as goal
 
 pub returns : goal.returns

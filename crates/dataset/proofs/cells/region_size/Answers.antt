@@ -1,5 +1,4 @@
 -- The two bytes of the section are those of every data set with this section. Assumes nothing.
-use borrow.Author.Rules.{rules}
 use Rattle.model.specs.DataSets.{size}
 use Rattle.dataset.proofs.cells.region_size.Goals as goal
 

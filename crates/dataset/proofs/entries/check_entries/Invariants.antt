@@ -1,13 +1,11 @@
 -- Before each map, what is left to check decides the outcome (Scanning); its entries lie in their section. Assumes nothing.
-use Prim.Native.Nat.{◌-◌, ◌/◌, ◌≤◌, ◌<◌}
-use mathlib.Core.Path.{◌≡◌, refl}
+use Prim.Native.Nat.{◌-◌, ◌/◌, ◌≤◌}
+use mathlib.Core.Path.{◌≡◌}
 use lib.ListN.{length}
-use borrow.Author.Rules.{rules}
 use Rattle.model.specs.Layout.{Plan, map_count}
 use Rattle.model.specs.DataSets.{DataSet, entries_check}
-use Rattle.primitives.proofs.Scanning.{Scanning, scanning_start, scanning_next, scanning_refused, scanning_end}
+use Rattle.primitives.proofs.Scanning.{Scanning}
 use Rattle.dataset.specs.Entries.{EntrySources, EntriesPlaced}
-use Rattle.dataset.proofs.Starts.{map_ready}
 use Rattle.dataset.proofs.entries.check_entries.Given as goal
 
 abbrev pub invariant-loop-map : goal.invariant-loop-map

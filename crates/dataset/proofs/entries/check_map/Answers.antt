@@ -1,5 +1,4 @@
 -- The numbers handed on are those of the map's record and of the sizes. Assumes nothing.
-use borrow.Author.Rules.{rules}
 use Rattle.model.specs.Tests.{◌==◌}
 use Rattle.model.specs.DataSets.{entries_check, entry_fits, entry}
 use Rattle.dataset.proofs.entries.check_map.Goals as goal

@@ -2,7 +2,6 @@
 use mathlib.Core.Path.{sym, ◌∙◌}
 use Rattle.model.proofs.Tests.{every_at}
 use Rattle.model.proofs.Outcomes.{required, passes_scan}
-use borrow.Author.Rules.{rules}
 use Rattle.dataset.proofs.entries.check_map_entries.Goals as goal
 
 pub returns-then-entries_fit : goal.returns-then-entries_fit

@@ -1,8 +1,6 @@
 -- The loop has tested the entries before. Assumes nothing.
-use Prim.Native.Nat.{◌-◌, ◌≤◌}
-use mathlib.Core.Path.{◌≡◌, ◌∙◌}
+use mathlib.Core.Path.{◌∙◌}
 use Rattle.model.specs.Tests.{every, ◌and◌}
-use Rattle.dataset.specs.Entries.{entry_fits_at}
 use Rattle.primitives.proofs.Searches.{every_next, every_end}
 use borrow.Author.Rules.{rules}
 use Rattle.dataset.proofs.entries.entries_fit.Goals as goal

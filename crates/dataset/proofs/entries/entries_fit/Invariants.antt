@@ -1,10 +1,8 @@
 -- The loop has tested the entries before. Assumes nothing.
 use Prim.Native.Nat.{◌-◌, ◌≤◌}
-use mathlib.Core.Path.{◌≡◌, ◌∙◌}
-use Rattle.model.specs.Tests.{every, ◌and◌}
+use mathlib.Core.Path.{◌≡◌}
+use Rattle.model.specs.Tests.{every}
 use Rattle.dataset.specs.Entries.{entry_fits_at}
-use Rattle.primitives.proofs.Searches.{every_next, every_end}
-use borrow.Author.Rules.{rules}
 use Rattle.dataset.proofs.entries.entries_fit.Given as goal
 
 abbrev pub invariant-loop-element : goal.invariant-loop-element

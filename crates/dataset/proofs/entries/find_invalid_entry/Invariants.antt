@@ -1,10 +1,6 @@
 -- Before each entry, what is left to check decides the outcome (Scanning). Assumes nothing.
 use Prim.Native.Nat.{◌-◌}
-use mathlib.Core.Path.{refl, sym, ◌∙◌}
-use borrow.Author.Tests.{not-true, not-false}
-use borrow.Author.Rules.{rules}
-use Rattle.model.specs.Outcomes.{require}
-use Rattle.primitives.proofs.Scanning.{Scanning, scanning_start, scanning_next, scanning_refused, scanning_end}
+use Rattle.primitives.proofs.Scanning.{Scanning}
 use Rattle.dataset.specs.Entries.{entry_check}
 use Rattle.dataset.proofs.entries.find_invalid_entry.Given as goal
 

@@ -1,7 +1,6 @@
 -- The bodies cut out are the data set's, and each test is the definition's. Assumes nothing.
 use mathlib.Core.Path.{sym}
 use native.Mathlib.Omega.{arith}
-use borrow.Author.Rules.{rules}
 use Rattle.model.specs.Tests.{◌and◌, ◌==◌, ◌≤?◌}
 use Rattle.model.specs.DataSets.{data_of}
 use Rattle.primitives.proofs.Bodies.{fewer}

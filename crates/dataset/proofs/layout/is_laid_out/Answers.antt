@@ -1,5 +1,4 @@
 -- The frame's last place is the last boundary. Assumes nothing.
-use borrow.Author.Rules.{rules}
 use Rattle.model.specs.Tests.{◌and◌, ◌==◌}
 use Rattle.dataset.specs.Layout.{laid_out}
 use Rattle.dataset.proofs.Framing.{last_place}

@@ -1,12 +1,9 @@
 -- The loop has stored the starts of the maps before, and has the next map's start in hand. Assumes nothing.
-use Prim.Native.Nat.{◌-◌, ◌*◌, ◌/◌, ◌≤◌}
-use mathlib.Core.Path.{◌≡◌, refl}
-use lib.ListN.{length}
+use mathlib.Core.Path.{refl}
 use borrow.Author.Rules.{rules}
-use Rattle.model.specs.Layout.{Plan, map_count}
-use Rattle.model.specs.DataSets.{DataSet, entry_start}
-use Rattle.dataset.specs.Layout.{EntryStartSources}
-use Rattle.dataset.proofs.Starts.{StartsStored, none_stored, next_stored, all_stored}
+use Rattle.model.specs.Layout.{map_count}
+use Rattle.model.specs.DataSets.{entry_start}
+use Rattle.dataset.proofs.Starts.{none_stored, next_stored, all_stored}
 use Rattle.dataset.proofs.layout.place_entries.Goals as goal
 
 pub loop-map-init : goal.loop-map-init

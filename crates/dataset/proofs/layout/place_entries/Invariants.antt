@@ -1,12 +1,11 @@
 -- The loop has stored the starts of the maps before, and has the next map's start in hand. Assumes nothing.
 use Prim.Native.Nat.{◌-◌, ◌*◌, ◌/◌, ◌≤◌}
-use mathlib.Core.Path.{◌≡◌, refl}
+use mathlib.Core.Path.{◌≡◌}
 use lib.ListN.{length}
-use borrow.Author.Rules.{rules}
-use Rattle.model.specs.Layout.{Plan, map_count}
+use Rattle.model.specs.Layout.{Plan}
 use Rattle.model.specs.DataSets.{DataSet, entry_start}
 use Rattle.dataset.specs.Layout.{EntryStartSources}
-use Rattle.dataset.proofs.Starts.{StartsStored, none_stored, next_stored, all_stored}
+use Rattle.dataset.proofs.Starts.{StartsStored}
 use Rattle.dataset.proofs.layout.place_entries.Given as goal
 
 abbrev pub invariant-loop-map : goal.invariant-loop-map

@@ -1,14 +1,12 @@
 -- The loop has stored the starts of the partitions before, and has the next one's start in hand. Assumes nothing.
-use Prim.Native.Nat.{ℕ, ◌+◌, ◌-◌, ◌*◌, ◌/◌, ◌≤◌, ◌<◌}
-use mathlib.Core.Path.{◌≡◌, refl}
+use Prim.Native.Nat.{ℕ, ◌+◌, ◌*◌, ◌/◌, ◌≤◌, ◌<◌}
+use mathlib.Core.Path.{refl}
 use native.Mathlib.Nat.{mul-le-mul}
 use native.Mathlib.Omega.{arith}
-use lib.ListN.{length}
 use borrow.Author.Rules.{rules}
-use Rattle.model.specs.Layout.{Plan, supplied_count}
-use Rattle.model.specs.DataSets.{DataSet, member_start, piece_bytes}
-use Rattle.dataset.specs.Layout.{MemberStartSources}
-use Rattle.dataset.proofs.Starts.{StartsStored, none_stored, next_stored, all_stored}
+use Rattle.model.specs.Layout.{supplied_count}
+use Rattle.model.specs.DataSets.{member_start, piece_bytes}
+use Rattle.dataset.proofs.Starts.{none_stored, next_stored, all_stored}
 use Rattle.dataset.proofs.layout.place_members.Goals as goal
 use Rattle.dataset.proofs.layout.place_members.Goals.{After-region_size-size}
 

@@ -1,7 +1,6 @@
 -- The starts and the lengths are those of the data set's bodies. Assumes nothing.
 use mathlib.Core.Path.{refl, sym}
 use native.Mathlib.Omega.{arith}
-use borrow.Author.Rules.{rules}
 use Rattle.model.specs.DataSets.{data_of}
 use Rattle.primitives.proofs.Bodies.{fewer}
 use Rattle.dataset.specs.Layout.{sections_right}

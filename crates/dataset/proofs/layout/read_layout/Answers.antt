@@ -1,6 +1,5 @@
 -- By the two cases of the first half of the frame's test. Assumes nothing.
 use mathlib.Core.Path.{refl, sym, ◌∙◌}
-use borrow.Author.Rules.{rules}
 use Rattle.dataset.proofs.Framing.{laid_out_delimited, layout_read, layout_refused}
 use Rattle.dataset.proofs.layout.read_layout.Goals as goal
 

@@ -1,12 +1,9 @@
 -- The loop has tested the regions before. Assumes nothing.
-use Prim.Native.Nat.{◌-◌, ◌≤◌}
-use mathlib.Core.Path.{◌≡◌, ◌∙◌}
-use lib.ListN.{length}
+use mathlib.Core.Path.{◌∙◌}
 use borrow.Author.Rules.{rules}
 use Rattle.model.specs.Tests.{every, ◌and◌, ◌≤?◌}
-use Rattle.model.specs.DataSets.{DataSet}
 use Rattle.primitives.proofs.Searches.{every_next, every_end}
-use Rattle.dataset.specs.Layout.{size_fits, sizes_fit}
+use Rattle.dataset.specs.Layout.{size_fits}
 use Rattle.dataset.proofs.layout.sizes_fit.Goals as goal
 
 pub loop-region-init : goal.loop-region-init

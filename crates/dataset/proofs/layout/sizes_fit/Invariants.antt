@@ -1,12 +1,9 @@
 -- The loop has tested the regions before. Assumes nothing.
 use Prim.Native.Nat.{◌-◌, ◌≤◌}
-use mathlib.Core.Path.{◌≡◌, ◌∙◌}
+use mathlib.Core.Path.{◌≡◌}
 use lib.ListN.{length}
-use borrow.Author.Rules.{rules}
-use Rattle.model.specs.Tests.{every, ◌and◌, ◌≤?◌}
 use Rattle.model.specs.DataSets.{DataSet}
-use Rattle.primitives.proofs.Searches.{every_next, every_end}
-use Rattle.dataset.specs.Layout.{size_fits, sizes_fit}
+use Rattle.dataset.specs.Layout.{sizes_fit}
 use Rattle.dataset.proofs.layout.sizes_fit.Given as goal
 
 abbrev pub invariant-loop-region : goal.invariant-loop-region

@@ -1,15 +1,11 @@
 -- Before each partition, what is left to check decides the outcome (Scanning); its members lie in their section. Assumes nothing.
-use Prim.Native.Nat.{◌-◌, ◌/◌, ◌≤◌, ◌<◌}
-use mathlib.Core.Path.{◌≡◌, refl, sym, ◌∙◌}
+use Prim.Native.Nat.{◌-◌, ◌/◌, ◌≤◌}
+use mathlib.Core.Path.{◌≡◌}
 use lib.ListN.{length}
-use borrow.Author.Tests.{not-true, not-false}
-use borrow.Author.Rules.{rules}
-use Rattle.model.specs.Outcomes.{require}
 use Rattle.model.specs.Layout.{Plan, supplied_count}
 use Rattle.model.specs.DataSets.{DataSet}
-use Rattle.primitives.proofs.Scanning.{Scanning, scanning_start, scanning_next, scanning_refused, scanning_end}
+use Rattle.primitives.proofs.Scanning.{Scanning}
 use Rattle.dataset.specs.Supplied.{SuppliedSources, MembersPlaced, partition_check}
-use Rattle.dataset.proofs.Starts.{partition_ready}
 use Rattle.dataset.proofs.supplied.check_supplied.Given as goal
 
 abbrev pub invariant-loop-partition : goal.invariant-loop-partition

@@ -1,6 +1,5 @@
 -- Each test is the definition's. Assumes nothing.
 use Rattle.model.specs.Tests.{◌and◌, ◌or◌, non, ◌==◌}
-use borrow.Author.Rules.{rules}
 use Rattle.dataset.proofs.supplied.column_keeps_flags.Goals as goal
 
 pub returns : goal.returns

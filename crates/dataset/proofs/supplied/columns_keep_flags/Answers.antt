@@ -1,8 +1,6 @@
 -- The loop has tested the columns before. Assumes nothing.
-use Prim.Native.Nat.{◌+◌, ◌-◌, ◌/◌, ◌≤◌}
-use mathlib.Core.Path.{◌≡◌, refl, ◌∙◌}
+use mathlib.Core.Path.{refl, ◌∙◌}
 use Rattle.model.specs.Tests.{every, ◌and◌}
-use Rattle.dataset.specs.Columns.{column_at}
 use Rattle.primitives.proofs.Searches.{every_next, every_end}
 use borrow.Author.Rules.{rules}
 use Rattle.dataset.proofs.supplied.columns_keep_flags.Goals as goal

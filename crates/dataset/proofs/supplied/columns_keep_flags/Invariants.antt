@@ -1,10 +1,8 @@
 -- The loop has tested the columns before. Assumes nothing.
 use Prim.Native.Nat.{◌+◌, ◌-◌, ◌/◌, ◌≤◌}
-use mathlib.Core.Path.{◌≡◌, refl, ◌∙◌}
-use Rattle.model.specs.Tests.{every, ◌and◌}
+use mathlib.Core.Path.{◌≡◌}
+use Rattle.model.specs.Tests.{every}
 use Rattle.dataset.specs.Columns.{column_at}
-use Rattle.primitives.proofs.Searches.{every_next, every_end}
-use borrow.Author.Rules.{rules}
 use Rattle.dataset.proofs.supplied.columns_keep_flags.Given as goal
 
 abbrev pub invariant-loop-column : goal.invariant-loop-column

@@ -1,6 +1,5 @@
 -- The numbers handed on are those of the partition's record and of the sizes; by columns is by sets. Assumes nothing.
 use mathlib.Core.Path.{sym}
-use borrow.Author.Rules.{rules}
 use Rattle.model.specs.Tests.{◌==◌, ◌or◌}
 use Rattle.dataset.proofs.Columns.{by_columns}
 use Rattle.dataset.proofs.supplied.partition_keeps_flags.Goals as goal

@@ -1,9 +1,9 @@
 -- The loop has united the bytes of the pieces before. Assumes nothing.
-use Prim.Native.Nat.{◌+◌, ◌-◌, ◌*◌, ◌/◌, ◌≤◌, ◌<◌}
+use Prim.Native.Nat.{◌+◌, ◌*◌, ◌/◌, ◌<◌}
 use mathlib.Core.Path.{◌≡◌, refl}
 use native.Mathlib.Numerals.{add-one}
 use native.Mathlib.Omega.{arith}
-use Rattle.dataset.specs.Columns.{united, repeated, piece_word}
+use Rattle.dataset.specs.Columns.{united, repeated}
 use Rattle.dataset.proofs.Columns.{piece_inside}
 use borrow.Author.Rules.{rules}
 use Rattle.dataset.proofs.supplied.read_column.Goals as goal

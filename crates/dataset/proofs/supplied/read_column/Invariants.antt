@@ -1,11 +1,7 @@
 -- The loop has united the bytes of the pieces before. Assumes nothing.
-use Prim.Native.Nat.{◌+◌, ◌-◌, ◌*◌, ◌/◌, ◌≤◌, ◌<◌}
-use mathlib.Core.Path.{◌≡◌, refl}
-use native.Mathlib.Numerals.{add-one}
-use native.Mathlib.Omega.{arith}
+use Prim.Native.Nat.{◌+◌, ◌-◌, ◌/◌, ◌≤◌}
+use mathlib.Core.Path.{◌≡◌}
 use Rattle.dataset.specs.Columns.{united, repeated, piece_word}
-use Rattle.dataset.proofs.Columns.{piece_inside}
-use borrow.Author.Rules.{rules}
 use Rattle.dataset.proofs.supplied.read_column.Given as goal
 
 abbrev pub invariant-loop-piece : goal.invariant-loop-piece

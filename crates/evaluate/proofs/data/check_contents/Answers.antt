@@ -2,7 +2,6 @@
 -- from the last section that is cut to the plan's two, and on to the start
 use mathlib.Core.Path.{◌≡◌, refl, sym, ◌∙◌}
 use native.Mathlib.Omega.{arith}
-use borrow.Author.Rules.{rules}
 use Rattle.model.specs.Layout.{plan_of}
 use Rattle.model.specs.DataSets.{data_of}
 use Rattle.dataset.specs.Entries.{all_entries}

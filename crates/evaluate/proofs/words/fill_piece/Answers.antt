@@ -1,7 +1,6 @@
 -- One piece, in a span of it. Assumes nothing.
 use mathlib.Core.Path.{◌∙◌}
 use native.Mathlib.Omega.{arith}
-use borrow.Author.Rules.{rules}
 use Rattle.evaluate.proofs.OnePiece.{one_ready, one_filled}
 use Rattle.evaluate.proofs.words.fill_piece.Goals as goal
 

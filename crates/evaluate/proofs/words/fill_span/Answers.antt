@@ -2,7 +2,6 @@
 -- from the last section that is cut to the first, and on to the start
 use native.Mathlib.Omega.{arith}
 use lib.ListN.{length}
-use borrow.Author.Rules.{rules}
 use Rattle.model.specs.Layout.{plan_of}
 use Rattle.subregions.specs.Fill.{FillSources}
 use Rattle.primitives.proofs.Bodies.{fewer}

@@ -1,7 +1,6 @@
 -- The wanted nodes and what they are made of, in a span of all pieces. Assumes nothing.
 use mathlib.Core.Path.{refl, sym}
 use native.Mathlib.Omega.{arith}
-use borrow.Author.Rules.{rules}
 use Rattle.model.specs.Layout.{plan_of}
 use Rattle.subregions.specs.Needed.{NeededFor}
 use Rattle.primitives.proofs.Bodies.{fewer}

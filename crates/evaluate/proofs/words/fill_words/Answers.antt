@@ -4,7 +4,6 @@ use mathlib.Core.Path.{ap, ◌∙◌}
 use lib.ListN.{length}
 use Prim.Native.Nat.{◌/◌}
 use Rattle.model.specs.Bytes.{Bytes}
-use borrow.Author.Rules.{rules}
 use Rattle.primitives.proofs.Bodies.{fewer}
 use Rattle.evaluate.proofs.Spans.{whole_ready, whole_filled}
 use Rattle.evaluate.proofs.words.fill_words.Goals as goal

@@ -4,7 +4,6 @@ use mathlib.Core.Path.{sym, ap}
 use mathlib.Core.Bool.{false}
 use lib.ListN.{get_or, get_or-eq_default}
 use native.Mathlib.Omega.{arith}
-use borrow.Author.Rules.{rules}
 use Rattle.model.specs.Lemmas.{lemma_row, lemmas, row}
 use Rattle.model.specs.declared.Conclusion.TheVariants.{Subset}
 use Rattle.expressions.proofs.lemmas.lemma_row.Goals as goal

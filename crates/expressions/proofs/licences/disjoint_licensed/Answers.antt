@@ -1,5 +1,4 @@
 -- The nodes, as they were read, and what steps p and q conclude are the rows' own. Assumes nothing.
-use borrow.Author.Rules.{rules}
 use Rattle.model.specs.Tests.{any, ◌and◌, ◌or◌, ◌==◌}
 use Rattle.model.specs.Lemmas.{licence, licences, concludes_subset, concludes_disjoint}
 use Rattle.expressions.proofs.NodeLaws.{node_is}

@@ -1,8 +1,6 @@
 -- By the group that the lemma is in. Assumes nothing.
 use Prim.Native.Nat.{◌≤◌}
-use borrow.Author.Rules.{rules}
 use mathlib.Core.Path.{◌∙◌}
-use mathlib.Core.Logic.{⊎_elim}
 use native.Mathlib.Omega.{arith}
 use Rattle.expressions.proofs.StepLaws.{in_group}
 use Rattle.expressions.proofs.licences.is_licensed.Goals as goal

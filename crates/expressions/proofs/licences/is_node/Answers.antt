@@ -1,5 +1,4 @@
 -- The node's record, as it was read. Assumes nothing.
-use borrow.Author.Rules.{rules}
 use Rattle.model.specs.Tests.{◌and◌, ◌==◌}
 use Rattle.model.specs.Lemmas.{is_node}
 use Rattle.expressions.proofs.NodeLaws.{node_is}

@@ -1,5 +1,4 @@
 -- The node and its flags, as they were read, are the rows' own. Assumes nothing.
-use borrow.Author.Rules.{rules}
 use Rattle.model.specs.Tests.{any, ◌and◌, ◌or◌, ◌==◌}
 use Rattle.model.specs.Lemmas.{licence, licences}
 use Rattle.expressions.proofs.NodeLaws.{node_is}

@@ -1,5 +1,4 @@
 -- The nodes, as they were read, and what step p concludes are the row's own. Assumes nothing.
-use borrow.Author.Rules.{rules}
 use Rattle.model.specs.Tests.{any, ◌and◌, ◌or◌, ◌==◌}
 use Rattle.model.specs.Lemmas.{licence, licences, is_private_part, concludes_disjoint}
 use Rattle.expressions.proofs.NodeLaws.{node_is}

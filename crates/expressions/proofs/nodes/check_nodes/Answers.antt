@@ -1,13 +1,12 @@
 -- Before each node, the tables have the earlier ones, and what is left to check decides the outcome. Assumes nothing.
 use borrow.Author.Rules.{rules}
-use Prim.Native.Nat.{◌-◌, ◌≤◌, ◌<◌}
+use Prim.Native.Nat.{◌≤◌, ◌<◌}
 use mathlib.Core.Path.{refl}
 use native.Mathlib.Omega.{arith}
-use Rattle.model.specs.Layout.{Plan, node_count}
+use Rattle.model.specs.Layout.{node_count}
 use Rattle.model.proofs.Outcomes.{never}
 use Rattle.primitives.proofs.Scanning.{scanning_start, scanning_next, scanning_refused, scanning_end}
-use Rattle.expressions.specs.Nodes.{NodeSources}
-use Rattle.expressions.proofs.NodeLaws.{NodeTables, NodesPassed, next_earlier}
+use Rattle.expressions.proofs.NodeLaws.{next_earlier}
 use Rattle.expressions.proofs.nodes.check_nodes.Goals as goal
 
 pub loop-j-init : goal.loop-j-init
@@ -18,8 +17,8 @@ loop-j-init c = (
         earlier = record { regions = record { region = λ k lt. absurd (omega arith) }; keys = λ k lt. absurd (omega arith); unused = λ k lt. absurd (omega arith) };
         scanning = scanning_start _ _;
       },
-
 )
+
 pub check_node-node-requires : goal.check_node-node-requires
 check_node-node-requires c = (search rules, search rules)
 

@@ -1,10 +1,8 @@
 -- The loop's invariant: what was found is the answer for the keys passed. Assumes nothing.
-use Prim.Native.Nat.{◌-◌, ◌≤◌}
 use mathlib.Core.Path.{◌≡◌, refl}
 use native.Mathlib.Numerals.{add-one}
 use native.Mathlib.Omega.{arith}
 use Rattle.model.specs.Tests.{any, ◌or◌, ◌==◌}
-use Rattle.expressions.specs.Nodes.{is_among}
 use borrow.Author.Rules.{rules}
 use Rattle.expressions.proofs.nodes.is_among.Goals as goal
 

@@ -1,5 +1,4 @@
 -- By the last byte, then by the kinds. Assumes nothing.
-use borrow.Author.Rules.{rules}
 use native.Mathlib.Omega.{arith}
 use Rattle.model.specs.Tests.{◌and◌, ◌==◌, ◌<?◌}
 use Rattle.model.specs.Nodes.{node_formed_by}

@@ -1,5 +1,4 @@
 -- The four bytes are those of node j of every plan with this section. Assumes nothing.
-use borrow.Author.Rules.{rules}
 use Rattle.expressions.proofs.nodes.read_node.Goals as goal
 
 pub returns : goal.returns

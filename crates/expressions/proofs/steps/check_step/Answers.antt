@@ -1,5 +1,4 @@
 -- By whether the step is formed; p and q are then steps up to it, and its licence is the definition's. Assumes nothing.
-use borrow.Author.Rules.{rules}
 use mathlib.Core.Path.{sym, ◌∙◌}
 use native.Mathlib.Omega.{arith}
 use Rattle.model.specs.Lemmas.{step_licensed}

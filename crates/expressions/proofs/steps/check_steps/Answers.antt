@@ -1,21 +1,20 @@
 -- Before each step, the table has what the earlier ones conclude, and what is left to check decides the outcome. Assumes nothing.
 use borrow.Author.Rules.{rules}
-use Prim.Native.Nat.{◌-◌, ◌≤◌, ◌<◌}
+use Prim.Native.Nat.{◌≤◌, ◌<◌}
 use mathlib.Core.Path.{refl}
 use native.Mathlib.Omega.{arith}
-use Rattle.model.specs.Layout.{Plan, step_count}
+use Rattle.model.specs.Layout.{step_count}
 use Rattle.model.proofs.Outcomes.{never}
 use Rattle.primitives.proofs.Scanning.{scanning_start, scanning_next, scanning_refused, scanning_end}
-use Rattle.expressions.specs.Steps.{StepSources}
-use Rattle.expressions.proofs.StepLaws.{StepTable, StepsPassed, next_keys}
+use Rattle.expressions.proofs.StepLaws.{next_keys}
 use Rattle.expressions.proofs.steps.check_steps.Goals as goal
 
 pub loop-t-init : goal.loop-t-init
 loop-t-init c = (
   record { counted = refl; most = search rules; room = search rules },
   λ P is. record { earlier = λ k lt. absurd (omega arith); scanning = scanning_start _ _ },
-
 )
+
 pub check_step-requires : goal.check_step-requires
 check_step-requires c =
     record { bytes = c.step_at-step.ensures.0; listed = c.lemma_row-row.ensures; inside = search rules }

@@ -1,13 +1,8 @@
 -- Before each step, the table has what the earlier ones conclude, and what is left to check decides the outcome. Assumes nothing.
-use borrow.Author.Rules.{rules}
-use Prim.Native.Nat.{◌-◌, ◌≤◌, ◌<◌}
-use mathlib.Core.Path.{refl}
-use native.Mathlib.Omega.{arith}
-use Rattle.model.specs.Layout.{Plan, step_count}
-use Rattle.model.proofs.Outcomes.{never}
-use Rattle.primitives.proofs.Scanning.{scanning_start, scanning_next, scanning_refused, scanning_end}
+use Prim.Native.Nat.{◌-◌}
+use Rattle.model.specs.Layout.{Plan}
 use Rattle.expressions.specs.Steps.{StepSources}
-use Rattle.expressions.proofs.StepLaws.{StepTable, StepsPassed, next_keys}
+use Rattle.expressions.proofs.StepLaws.{StepTable, StepsPassed}
 use Rattle.expressions.proofs.steps.check_steps.Given as goal
 
 abbrev pub invariant-loop-t : goal.invariant-loop-t

@@ -1,5 +1,4 @@
 -- By the three forms of a conclusion. Assumes nothing.
-use borrow.Author.Rules.{rules}
 use Rattle.expressions.specs.Steps.{conclusion_key}
 use Rattle.expressions.proofs.steps.conclusion_key.Goals as goal
 

@@ -1,5 +1,4 @@
 -- The row and the operands, as they were read, are the definition's. Assumes nothing.
-use borrow.Author.Rules.{rules}
 use Rattle.model.specs.Tests.{◌and◌, ◌≤?◌}
 use Rattle.model.specs.Lemmas.{step_formed}
 use Rattle.expressions.proofs.StepLaws.{step_is, formed_step}

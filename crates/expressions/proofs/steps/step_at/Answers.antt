@@ -1,5 +1,4 @@
 -- The five bytes are those of step t of every plan with this section. Assumes nothing.
-use borrow.Author.Rules.{rules}
 use Rattle.expressions.proofs.steps.step_at.Goals as goal
 
 pub returns : goal.returns

@@ -1,6 +1,5 @@
 -- The two tests are the definition's. Assumes nothing.
 use native.Mathlib.Numerals.{add-one}
-use borrow.Author.Rules.{rules}
 use Rattle.model.specs.Tests.{◌and◌, ◌==◌, ◌≤?◌}
 use Rattle.layout.specs.Frames.{length_check}
 use Rattle.layout.proofs.frame.check_section.Goals as goal

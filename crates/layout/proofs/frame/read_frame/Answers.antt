@@ -2,7 +2,6 @@
 use native.Mathlib.Omega.{arith}
 use lib.ListN.{length}
 use borrow.Author.Tests.{le-leb, lt-leb, eq-eqb, ne_eqb}
-use borrow.Author.Rules.{rules}
 use Rattle.model.specs.Tests.{◌==◌, ◌≤?◌}
 use Rattle.model.specs.Bytes.{byte}
 use Rattle.model.specs.Outcomes.{require, ◌then◌}

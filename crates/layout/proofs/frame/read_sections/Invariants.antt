@@ -1,8 +1,6 @@
 -- After each section its place is stored, and the sections left decide the outcome (Frames). Assumes nothing.
 use Prim.Native.Nat.{◌-◌}
-use mathlib.Core.Path.{sym, ◌∙◌}
-use borrow.Author.Rules.{rules}
-use Rattle.layout.proofs.Frames.{Progress, progress_start, progress_next, progress_refused, progress_trailing, progress_whole}
+use Rattle.layout.proofs.Frames.{Progress}
 use Rattle.layout.proofs.frame.read_sections.Given as goal
 
 abbrev pub invariant-loop-section : goal.invariant-loop-section

@@ -6,7 +6,6 @@ use mathlib.Core.List.{map}
 use native.Mathlib.Omega.{arith}
 use lib.Dec.{lit<}
 use lib.ListN.{get_or}
-use borrow.Author.Rules.{rules}
 use Rattle.model.specs.Layout.{shapes, shape_of}
 use Rattle.model.proofs.Tests.{at_each}
 use Rattle.layout.specs.Frames.{row, Shaped}

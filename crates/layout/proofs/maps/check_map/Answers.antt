@@ -1,5 +1,4 @@
 -- The test is the definition's, of the bytes read. Assumes nothing.
-use borrow.Author.Rules.{rules}
 use Rattle.model.specs.Tests.{◌and◌, ◌<?◌, ◌≤?◌}
 use Rattle.model.specs.Declarations.{map_check}
 use Rattle.layout.proofs.maps.check_map.Goals as goal

@@ -1,11 +1,5 @@
 -- Before each map, what is left to check decides the outcome (Scanning). Assumes nothing.
-use Prim.Native.Nat.{◌-◌, ◌/◌}
-use lib.ListN.{length}
-use borrow.Author.Rules.{rules}
-use Rattle.model.specs.Layout.{Plan, map_count}
-use Rattle.model.specs.Declarations.{map_check}
-use Rattle.primitives.proofs.Scanning.{Scanning, scanning_start, scanning_next, scanning_refused, scanning_end}
-use Rattle.layout.specs.Declarations.{MapDeclarations}
+use Rattle.primitives.proofs.Scanning.{scanning_start, scanning_next, scanning_refused, scanning_end}
 use Rattle.layout.proofs.maps.check_maps.Goals as goal
 
 pub loop-map-init : goal.loop-map-init

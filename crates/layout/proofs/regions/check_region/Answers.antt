@@ -1,5 +1,4 @@
 -- The test is the definition's, of the byte read. Assumes nothing.
-use borrow.Author.Rules.{rules}
 use Rattle.model.specs.Tests.{◌and◌, ◌≤?◌}
 use Rattle.model.specs.Declarations.{region_check}
 use Rattle.layout.proofs.regions.check_region.Goals as goal

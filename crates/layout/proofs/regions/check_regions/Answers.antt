@@ -1,11 +1,5 @@
 -- Before each region, what is left to check decides the outcome (Scanning). Assumes nothing.
-use Prim.Native.Nat.{◌-◌}
-use mathlib.Core.Path.{◌≡◌}
-use lib.ListN.{length}
-use borrow.Author.Rules.{rules}
-use Rattle.model.specs.Layout.{Plan, region_count}
-use Rattle.model.specs.Declarations.{region_check}
-use Rattle.primitives.proofs.Scanning.{Scanning, scanning_start, scanning_next, scanning_refused, scanning_end}
+use Rattle.primitives.proofs.Scanning.{scanning_start, scanning_next, scanning_refused, scanning_end}
 use Rattle.layout.proofs.regions.check_regions.Goals as goal
 
 pub loop-region-init : goal.loop-region-init

@@ -2,10 +2,9 @@
 use Prim.Native.Nat.{◌-◌}
 use mathlib.Core.Path.{◌≡◌}
 use lib.ListN.{length}
-use borrow.Author.Rules.{rules}
 use Rattle.model.specs.Layout.{Plan, region_count}
 use Rattle.model.specs.Declarations.{region_check}
-use Rattle.primitives.proofs.Scanning.{Scanning, scanning_start, scanning_next, scanning_refused, scanning_end}
+use Rattle.primitives.proofs.Scanning.{Scanning}
 use Rattle.layout.proofs.regions.check_regions.Given as goal
 
 abbrev pub invariant-loop-region : goal.invariant-loop-region

@@ -1,11 +1,5 @@
 -- Before each partition, what is left to check decides the outcome (Scanning). Assumes nothing.
-use Prim.Native.Nat.{◌-◌, ◌/◌}
-use lib.ListN.{length}
-use borrow.Author.Rules.{rules}
-use Rattle.model.specs.Layout.{Plan, supplied_count}
-use Rattle.model.specs.Declarations.{supplied_check}
-use Rattle.primitives.proofs.Scanning.{Scanning, scanning_start, scanning_next, scanning_refused, scanning_end}
-use Rattle.layout.specs.Declarations.{SuppliedDeclarations}
+use Rattle.primitives.proofs.Scanning.{scanning_start, scanning_next, scanning_refused, scanning_end}
 use Rattle.layout.proofs.supplied.check_supplied.Goals as goal
 
 pub loop-partition-init : goal.loop-partition-init

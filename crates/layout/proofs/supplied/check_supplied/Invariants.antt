@@ -1,10 +1,9 @@
 -- Before each partition, what is left to check decides the outcome (Scanning). Assumes nothing.
 use Prim.Native.Nat.{◌-◌, ◌/◌}
 use lib.ListN.{length}
-use borrow.Author.Rules.{rules}
 use Rattle.model.specs.Layout.{Plan, supplied_count}
 use Rattle.model.specs.Declarations.{supplied_check}
-use Rattle.primitives.proofs.Scanning.{Scanning, scanning_start, scanning_next, scanning_refused, scanning_end}
+use Rattle.primitives.proofs.Scanning.{Scanning}
 use Rattle.layout.specs.Declarations.{SuppliedDeclarations}
 use Rattle.layout.proofs.supplied.check_supplied.Given as goal
 

@@ -1,5 +1,4 @@
 -- By the eight kinds. Assumes nothing.
-use borrow.Author.Rules.{rules}
 use Rattle.model.specs.Statements.{access_of}
 use Rattle.loops.proofs.kinds.access_of.Goals as goal
 

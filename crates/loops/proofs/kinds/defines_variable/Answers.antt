@@ -1,5 +1,4 @@
 -- By the eight kinds. Assumes nothing.
-use borrow.Author.Rules.{rules}
 use Rattle.model.specs.Statements.{defines_variable}
 use Rattle.loops.proofs.kinds.defines_variable.Goals as goal
 

@@ -1,5 +1,4 @@
 -- By the four cases of an access. Assumes nothing.
-use borrow.Author.Rules.{rules}
 use Rattle.model.specs.Statements.{is_access}
 use Rattle.loops.proofs.kinds.is_access.Goals as goal
 

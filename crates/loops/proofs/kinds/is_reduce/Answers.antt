@@ -1,5 +1,4 @@
 -- By the four cases of an access. Assumes nothing.
-use borrow.Author.Rules.{rules}
 use Rattle.model.specs.Parallel.{is_reduce}
 use Rattle.loops.proofs.kinds.is_reduce.Goals as goal
 

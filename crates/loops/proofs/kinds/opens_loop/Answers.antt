@@ -1,5 +1,4 @@
 -- By the eight kinds. Assumes nothing.
-use borrow.Author.Rules.{rules}
 use Rattle.model.specs.Statements.{opens_loop}
 use Rattle.loops.proofs.kinds.opens_loop.Goals as goal
 

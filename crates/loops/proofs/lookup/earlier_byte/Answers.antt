@@ -2,7 +2,6 @@
 use mathlib.Core.Path.{sym, ◌∙◌}
 use Rattle.model.proofs.Recursion.{below_at}
 use Rattle.primitives.proofs.Filling.{below_past}
-use borrow.Author.Rules.{rules}
 use Rattle.loops.proofs.lookup.earlier_byte.Goals as goal
 
 pub returns-then-i-s : goal.returns-then-i-s

@@ -1,11 +1,9 @@
 -- By the test of the kind. Assumes nothing.
 use mathlib.Core.Path.{◌≡◌, sym, ◌∙◌}
-use borrow.Author.Tests.{not-true, not-false}
 use Rattle.model.specs.Layout.{Plan}
 use Rattle.model.specs.Statements.{opens}
 use Rattle.loops.proofs.Accesses.{opens_of_kind}
 use Rattle.loops.proofs.Parallelizable.{no_loop, loop_checked}
-use borrow.Author.Rules.{rules}
 use Rattle.loops.proofs.parallel.check_loop.Goals as goal
 use Rattle.loops.proofs.parallel.check_loop.Goals.{After-opens_loop}
 

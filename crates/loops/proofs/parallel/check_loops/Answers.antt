@@ -1,11 +1,5 @@
 -- Before each statement, what is left to check decides the outcome (Scanning). Assumes nothing.
-use Prim.Native.Nat.{◌-◌, ◌/◌}
-use lib.ListN.{length}
-use Rattle.model.specs.Layout.{Plan, statement_count}
-use Rattle.model.specs.Parallel.{loop_check}
-use Rattle.primitives.proofs.Scanning.{Scanning, scanning_start, scanning_next, scanning_refused, scanning_end}
-use Rattle.loops.specs.Parallel.{LoopsKnown}
-use borrow.Author.Rules.{rules}
+use Rattle.primitives.proofs.Scanning.{scanning_start, scanning_next, scanning_refused, scanning_end}
 use Rattle.loops.proofs.parallel.check_loops.Goals as goal
 
 pub loop-f-init : goal.loop-f-init

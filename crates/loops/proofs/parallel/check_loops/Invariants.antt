@@ -3,9 +3,8 @@ use Prim.Native.Nat.{◌-◌, ◌/◌}
 use lib.ListN.{length}
 use Rattle.model.specs.Layout.{Plan, statement_count}
 use Rattle.model.specs.Parallel.{loop_check}
-use Rattle.primitives.proofs.Scanning.{Scanning, scanning_start, scanning_next, scanning_refused, scanning_end}
+use Rattle.primitives.proofs.Scanning.{Scanning}
 use Rattle.loops.specs.Parallel.{LoopsKnown}
-use borrow.Author.Rules.{rules}
 use Rattle.loops.proofs.parallel.check_loops.Given as goal
 
 abbrev pub invariant-loop-f : goal.invariant-loop-f

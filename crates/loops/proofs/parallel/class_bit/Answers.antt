@@ -3,7 +3,6 @@ use Rattle.model.specs.Tests.{pick}
 use Rattle.loops.specs.Parallel.{class, class_by}
 use native.Mathlib.Omega.{arith}
 use Rattle.loops.proofs.Classes.{operator_bit}
-use borrow.Author.Rules.{rules}
 use Rattle.loops.proofs.parallel.class_bit.Goals as goal
 
 pub returns-in-Nothing : goal.returns-in-Nothing

@@ -1,11 +1,9 @@
 -- By the test of an access; what is stored is the byte that is tested. Assumes nothing.
 use mathlib.Core.Path.{sym, ◌∙◌}
 use native.Mathlib.Omega.{arith}
-use borrow.Author.Tests.{not-true, not-false}
 use Rattle.model.specs.Tests.{◌and◌, ◌or◌, non, pick}
 use Rattle.loops.specs.Parallel.{entered, admitted}
 use Rattle.loops.proofs.Classes.{entered_is, admitted_is}
-use borrow.Author.Rules.{rules}
 use Rattle.loops.proofs.parallel.enter_access.Goals as goal
 
 pub returns-then-not-is_access : goal.returns-then-not-is_access

@@ -1,16 +1,13 @@
 -- What was seen are the classes of the loop's accesses so far; one that is not admitted decides. Assumes nothing.
-use Prim.Native.Nat.{ℕ, ◌-◌, ◌≤◌, ◌<◌}
+use Prim.Native.Nat.{◌<◌}
 use mathlib.Core.Path.{◌≡◌, refl, sym, ap, ◌∙◌}
-use mathlib.Core.List.{List}
 use native.Mathlib.Omega.{arith}
 use lib.ListN.{length}
-use borrow.Author.Tests.{not-true, not-false}
 use Rattle.model.specs.Layout.{Plan, statement_count}
 use Rattle.model.specs.Statements.{loop}
 use Rattle.loops.specs.Parallel.{access_at, entered, admitted, LoopsKnown, LoopSpan}
-use Rattle.loops.specs.declared.parallel.LoopAccess.{LoopAccess}
 use Rattle.loops.proofs.Classes.{entered-length}
-use Rattle.loops.proofs.SeenClasses.{Seen, seen_start, seen_next, not_parallelizable, seen_end}
+use Rattle.loops.proofs.SeenClasses.{seen_start, seen_next, not_parallelizable, seen_end}
 use borrow.Author.Rules.{rules}
 use Rattle.loops.proofs.parallel.is_parallelizable.Goals as goal
 use Rattle.loops.proofs.parallel.is_parallelizable.Goals.{After-enter_access, In-loop-s}
@@ -45,14 +42,13 @@ returns-then-not-enter_access c =
     (sym (admitted_is (goal.at.returns-then-not-enter_access c).After-enter_access P known) ∙ c.if-not-enter_access.true))
 
 pub loop-s-preserved : goal.loop-s-preserved
-loop-s-preserved c =
-    (
-      search rules,
-      ap length c.enter_access.ensures.0 ∙ entered-length _ _ ∙ c.loop-s.invariant.1,
-      λ P known span.
-          rw (entered_is (goal.at.loop-s-preserved c).After-enter_access P known) (seen_next P _ (c.loop-s.invariant.2 P known span) (in_loop (goal.at.loop-s-preserved c).In-loop-s P span)
-          (sym (admitted_is (goal.at.loop-s-preserved c).After-enter_access P known) ∙ c.if-not-enter_access.false)),
-    )
+loop-s-preserved c = (
+  search rules,
+  ap length c.enter_access.ensures.0 ∙ entered-length _ _ ∙ c.loop-s.invariant.1,
+  λ P known span.
+      rw (entered_is (goal.at.loop-s-preserved c).After-enter_access P known) (seen_next P _ (c.loop-s.invariant.2 P known span) (in_loop (goal.at.loop-s-preserved c).In-loop-s P span)
+      (sym (admitted_is (goal.at.loop-s-preserved c).After-enter_access P known) ∙ c.if-not-enter_access.false)),
+)
 
 pub returns : goal.returns
 returns c = λ P known span. sym (seen_end P _ known.limits span c.loop-s-test.false (c.loop-s.invariant.2 P known span))

@@ -1,17 +1,10 @@
 -- What was seen are the classes of the loop's accesses so far; one that is not admitted decides. Assumes nothing.
-use Prim.Native.Nat.{ℕ, ◌-◌, ◌≤◌, ◌<◌}
-use mathlib.Core.Path.{◌≡◌, refl, sym, ap, ◌∙◌}
-use mathlib.Core.List.{List}
-use native.Mathlib.Omega.{arith}
+use Prim.Native.Nat.{◌-◌, ◌≤◌}
+use mathlib.Core.Path.{◌≡◌}
 use lib.ListN.{length}
-use borrow.Author.Tests.{not-true, not-false}
-use Rattle.model.specs.Layout.{Plan, statement_count}
-use Rattle.model.specs.Statements.{loop}
-use Rattle.loops.specs.Parallel.{access_at, entered, admitted, LoopsKnown, LoopSpan}
-use Rattle.loops.specs.declared.parallel.LoopAccess.{LoopAccess}
-use Rattle.loops.proofs.Classes.{entered-length}
-use Rattle.loops.proofs.SeenClasses.{Seen, seen_start, seen_next, not_parallelizable, seen_end}
-use borrow.Author.Rules.{rules}
+use Rattle.model.specs.Layout.{Plan}
+use Rattle.loops.specs.Parallel.{LoopsKnown, LoopSpan}
+use Rattle.loops.proofs.SeenClasses.{Seen}
 use Rattle.loops.proofs.parallel.is_parallelizable.Given as goal
 
 abbrev pub invariant-loop-s : goal.invariant-loop-s

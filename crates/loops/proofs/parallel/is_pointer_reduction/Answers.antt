@@ -4,7 +4,6 @@ use Rattle.model.specs.Tests.{◌and◌, non}
 use Rattle.model.specs.Parallel.{reduces, uncentered}
 use Rattle.loops.proofs.Accesses.{operand_centered}
 use Rattle.loops.proofs.Parallelizable.{own_reduction}
-use borrow.Author.Rules.{rules}
 use Rattle.loops.proofs.parallel.is_pointer_reduction.Goals as goal
 
 pub returns : goal.returns

@@ -1,6 +1,5 @@
 -- Each entry is the definition's value. Assumes nothing.
 use Rattle.loops.proofs.Accesses.{access_is}
-use borrow.Author.Rules.{rules}
 use Rattle.loops.proofs.parallel.loop_access.Goals as goal
 
 pub returns : goal.returns

@@ -1,12 +1,9 @@
 -- The statements before t are of the loop; the next FOR or the last statement ends it. Assumes nothing.
-use Prim.Native.Nat.{◌-◌, ◌/◌, ◌≤◌, ◌<◌}
 use mathlib.Core.Path.{◌≡◌, sym, ◌∙◌}
-use lib.ListN.{length}
-use Rattle.model.specs.Tests.{Is}
 use Rattle.model.specs.Layout.{Plan}
 use Rattle.model.specs.Statements.{opens}
 use Rattle.loops.proofs.Accesses.{opens_of_kind}
-use Rattle.loops.proofs.Spans.{Own, own_start, own_next, span_to_for, span_to_end}
+use Rattle.loops.proofs.Spans.{own_start, own_next, span_to_for, span_to_end}
 use borrow.Author.Rules.{rules}
 use Rattle.loops.proofs.parallel.loop_end.Goals as goal
 use Rattle.loops.proofs.parallel.loop_end.Goals.{After-opens_loop}

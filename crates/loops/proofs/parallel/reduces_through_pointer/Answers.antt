@@ -1,9 +1,7 @@
 -- None before s is such a reduction; the first that is decides. Assumes nothing.
-use Prim.Native.Nat.{◌-◌, ◌≤◌}
 use mathlib.Core.Path.{◌≡◌, sym, ◌∙◌}
-use mathlib.Core.Bool.{false}
 use native.Mathlib.Omega.{arith}
-use Rattle.model.specs.Tests.{Is, any}
+use Rattle.model.specs.Tests.{Is}
 use Rattle.model.specs.Layout.{Plan}
 use Rattle.model.specs.Statements.{opens}
 use Rattle.model.specs.Parallel.{reduces_through_pointer}

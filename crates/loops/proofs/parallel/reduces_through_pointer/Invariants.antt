@@ -1,17 +1,11 @@
 -- None before s is such a reduction; the first that is decides. Assumes nothing.
 use Prim.Native.Nat.{◌-◌, ◌≤◌}
-use mathlib.Core.Path.{◌≡◌, sym, ◌∙◌}
+use mathlib.Core.Path.{◌≡◌}
 use mathlib.Core.Bool.{false}
-use native.Mathlib.Omega.{arith}
 use Rattle.model.specs.Tests.{Is, any}
 use Rattle.model.specs.Layout.{Plan}
 use Rattle.model.specs.Statements.{opens}
-use Rattle.model.specs.Parallel.{reduces_through_pointer}
-use Rattle.loops.specs.Parallel.{LoopSpan, PointersKnown, pointer_reduction}
-use Rattle.loops.proofs.Parallelizable.{other_reduction}
-use Rattle.loops.proofs.Spans.{none_start, none_end, some_found}
-use Rattle.primitives.proofs.Searches.{none_next}
-use borrow.Author.Rules.{rules}
+use Rattle.loops.specs.Parallel.{PointersKnown, pointer_reduction}
 use Rattle.loops.proofs.parallel.reduces_through_pointer.Given as goal
 
 abbrev pub invariant-loop-s : goal.invariant-loop-s

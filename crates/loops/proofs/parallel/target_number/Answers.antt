@@ -1,7 +1,6 @@
 -- As the definition says. Assumes nothing.
 use native.Mathlib.Omega.{arith}
 use Rattle.loops.specs.Parallel.{target_number}
-use borrow.Author.Rules.{rules}
 use Rattle.loops.proofs.parallel.target_number.Goals as goal
 
 pub returns : goal.returns

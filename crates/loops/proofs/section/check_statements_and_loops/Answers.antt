@@ -1,9 +1,8 @@
 -- The pass keeps what is held of the statements before s equal to the definitions; at its end the tables hold what the
 -- check of the loops asks of them. Assumes nothing.
-use Prim.Native.Nat.{◌-◌, ◌/◌, ◌≤◌, ◌<◌}
+use Prim.Native.Nat.{◌≤◌, ◌<◌}
 use mathlib.Core.Path.{◌≡◌, refl, sym, ap, ◌∙◌}
 use native.Mathlib.Omega.{arith}
-use lib.ListN.{length}
 use Rattle.model.specs.Outcomes.{◌then◌}
 use Rattle.model.specs.Layout.{Plan, statement_count}
 use Rattle.model.specs.Statements.{statement_check}
@@ -54,16 +53,15 @@ returns-in-Refuse c =
     record { outcome = refused ∙ ap (λ (o : Outcome). o then loops_check P) first; tables = λ h. never (sym refused ∙ h) }
 
 pub loop-s-preserved : goal.loop-s-preserved
-loop-s-preserved c =
-    (
-      search rules,
-      search rules,
-      search rules,
-      c.enter_variable-count.ensures.0,
-      λ P from.
-          pass_next P (pass_is (goal.at.loop-s-preserved c).In-loop-s P from) (few (goal.at.loop-s-preserved c).In-loop-s) (entry_is (goal.at.loop-s-preserved c).After-entry_of-entry P from) (inside (goal.at.loop-s-preserved c).In-loop-s P from) (outcome_is (goal.at.loop-s-preserved c).After-check_statement-checked P from (few (goal.at.loop-s-preserved c).In-loop-s) (entry_is (goal.at.loop-s-preserved c).After-entry_of-entry P from)) c.in_default.is
-          (c.statement_at-statement.ensures P from.statements_are).kind_is c.enter_variable-count.ensures.1,
-    )
+loop-s-preserved c = (
+  search rules,
+  search rules,
+  search rules,
+  c.enter_variable-count.ensures.0,
+  λ P from.
+      pass_next P (pass_is (goal.at.loop-s-preserved c).In-loop-s P from) (few (goal.at.loop-s-preserved c).In-loop-s) (entry_is (goal.at.loop-s-preserved c).After-entry_of-entry P from) (inside (goal.at.loop-s-preserved c).In-loop-s P from) (outcome_is (goal.at.loop-s-preserved c).After-check_statement-checked P from (few (goal.at.loop-s-preserved c).In-loop-s) (entry_is (goal.at.loop-s-preserved c).After-entry_of-entry P from)) c.in_default.is
+      (c.statement_at-statement.ensures P from.statements_are).kind_is c.enter_variable-count.ensures.1,
+)
 
 pub returns : goal.returns
 unfolding ◌then◌

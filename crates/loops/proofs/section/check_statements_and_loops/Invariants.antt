@@ -1,21 +1,12 @@
 -- The pass keeps what is held of the statements before s equal to the definitions; at its end the tables hold what the
 -- check of the loops asks of them. Assumes nothing.
-use Prim.Native.Nat.{◌-◌, ◌/◌, ◌≤◌, ◌<◌}
-use mathlib.Core.Path.{◌≡◌, refl, sym, ap, ◌∙◌}
-use native.Mathlib.Omega.{arith}
+use Prim.Native.Nat.{◌-◌, ◌/◌}
+use mathlib.Core.Path.{◌≡◌}
 use lib.ListN.{length}
-use Rattle.model.specs.Outcomes.{◌then◌}
-use Rattle.model.specs.Layout.{Plan, statement_count}
-use Rattle.model.specs.Statements.{statement_check}
-use Rattle.model.specs.Verdict.{loops_check}
-use Rattle.model.specs.declared.Outcome.{Outcome}
-use Rattle.model.proofs.Outcomes.{never, scan_pass}
-use Rattle.primitives.proofs.Scanning.{scanning_refused, scanning_end}
+use Rattle.model.specs.Layout.{Plan}
 use Rattle.loops.specs.Section.{StatementSources}
-use Rattle.loops.specs.Statements.{variables_of, EntryAt}
-use Rattle.loops.proofs.Accesses.{access_limits}
-use Rattle.loops.proofs.StatementLaws.{StatementPass, pass_start, context, pass_next, pass_end}
-use borrow.Author.Rules.{rules}
+use Rattle.loops.specs.Statements.{variables_of}
+use Rattle.loops.proofs.StatementLaws.{StatementPass}
 use Rattle.loops.proofs.section.check_statements_and_loops.Given as goal
 
 abbrev pub invariant-loop-s : goal.invariant-loop-s

@@ -6,7 +6,6 @@ use Rattle.model.specs.Tests.{◌==◌}
 use Rattle.model.specs.Layout.{Plan, source, statement_a}
 use Rattle.model.specs.Statements.{statement_agrees, statement_agrees_by}
 use Rattle.loops.specs.Statements.{StatementAt}
-use borrow.Author.Rules.{rules}
 use Rattle.loops.proofs.statements.agrees_with_map.Goals as goal
 use Rattle.loops.proofs.statements.agrees_with_map.Goals.{After-map_source-source}
 

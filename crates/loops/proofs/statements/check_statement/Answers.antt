@@ -1,6 +1,5 @@
 -- The two tests, in order. Assumes nothing.
 use Rattle.model.specs.Statements.{statement_check}
-use borrow.Author.Rules.{rules}
 use Rattle.loops.proofs.statements.check_statement.Goals as goal
 
 pub returns : goal.returns

@@ -7,7 +7,6 @@ use Rattle.model.specs.Layout.{Plan}
 use Rattle.model.specs.Statements.{definition, operand_definition}
 use Rattle.loops.specs.Statements.{StatementAt}
 use Rattle.loops.proofs.StatementLaws.{region_value, centered_value}
-use borrow.Author.Rules.{rules}
 use Rattle.loops.proofs.statements.entry_of.Goals as goal
 use Rattle.loops.proofs.statements.entry_of.Goals.{After-byte_at-operand}
 

@@ -1,6 +1,5 @@
 -- By the eight kinds. Assumes nothing.
 use Rattle.model.specs.Statements.{access_field, field_by}
-use borrow.Author.Rules.{rules}
 use Rattle.loops.proofs.statements.field_of.Goals as goal
 
 pub returns-in-For : goal.returns-in-For

@@ -6,7 +6,6 @@ use Rattle.model.specs.Tests.{◌and◌, ◌==◌, ◌<?◌}
 use Rattle.model.specs.Layout.{Plan, fields}
 use Rattle.model.specs.Statements.{operand_region, statement_formed, statement_formed_by}
 use Rattle.loops.specs.Statements.{StatementContext}
-use borrow.Author.Rules.{rules}
 use Rattle.loops.proofs.statements.is_formed.Goals as goal
 use Rattle.loops.proofs.statements.is_formed.Goals.{After-byte_at-fields}
 

@@ -1,6 +1,5 @@
 -- The byte of the section is that of every plan with this section. Assumes nothing.
 use Rattle.model.specs.Statements.{kind}
-use borrow.Author.Rules.{rules}
 use Rattle.loops.proofs.statements.kind_at.Goals as goal
 
 pub returns : goal.returns

@@ -1,6 +1,5 @@
 -- The bytes of the section are those of every plan with this section. Assumes nothing.
 use Rattle.model.specs.Statements.{kind}
-use borrow.Author.Rules.{rules}
 use Rattle.loops.proofs.statements.statement_at.Goals as goal
 
 pub returns : goal.returns

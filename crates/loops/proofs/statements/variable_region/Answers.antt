@@ -5,7 +5,6 @@ use mathlib.Core.Path.{◌≡◌}
 use Rattle.model.specs.Layout.{Plan, target, statement_a}
 use Rattle.model.specs.Statements.{region_by}
 use Rattle.loops.specs.Statements.{StatementAt}
-use borrow.Author.Rules.{rules}
 use Rattle.loops.proofs.statements.variable_region.Goals as goal
 use Rattle.loops.proofs.statements.variable_region.Goals.{After-map_target-target}
 

@@ -1,12 +1,5 @@
 -- Before each statement, what is left to check decides the outcome (Scanning), and the count so far is its symbol. Assumes nothing.
-use Prim.Native.Nat.{◌-◌, ◌/◌, ◌≤◌}
-use mathlib.Core.Path.{◌≡◌}
-use lib.ListN.{length}
-use Rattle.model.specs.Layout.{Plan, statement_count}
-use Rattle.model.specs.Needs as Needs
-use Rattle.model.specs.Needs.{assignment_check}
-use Rattle.primitives.proofs.Scanning.{Scanning, scanning_start, scanning_next, scanning_refused, scanning_end}
-use Rattle.plan.specs.Assignments.{AssignmentSources}
+use Rattle.primitives.proofs.Scanning.{scanning_start, scanning_next, scanning_refused, scanning_end}
 use Rattle.plan.proofs.Symbols.{symbol_first}
 use borrow.Author.Rules.{rules}
 use Rattle.plan.proofs.assignments.check_assigned_nodes.Goals as goal

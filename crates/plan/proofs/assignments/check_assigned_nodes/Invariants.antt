@@ -5,10 +5,8 @@ use lib.ListN.{length}
 use Rattle.model.specs.Layout.{Plan, statement_count}
 use Rattle.model.specs.Needs as Needs
 use Rattle.model.specs.Needs.{assignment_check}
-use Rattle.primitives.proofs.Scanning.{Scanning, scanning_start, scanning_next, scanning_refused, scanning_end}
+use Rattle.primitives.proofs.Scanning.{Scanning}
 use Rattle.plan.specs.Assignments.{AssignmentSources}
-use Rattle.plan.proofs.Symbols.{symbol_first}
-use borrow.Author.Rules.{rules}
 use Rattle.plan.proofs.assignments.check_assigned_nodes.Given as goal
 
 abbrev pub invariant-loop-s : goal.invariant-loop-s

@@ -1,10 +1,8 @@
 -- A statement with no symbol, and one with a symbol. Assumes nothing.
 use mathlib.Core.Path.{sym, ◌∙◌, ap}
 use Prim.Native.Nat.{◌+◌, ◌*◌}
-use borrow.Author.Tests.{not-true, not-false}
 use Rattle.model.specs.Tests.{◌==◌, ◌<?◌}
 use Rattle.plan.proofs.AssignedNodes.{node_of_plan, unassigned, assigned_check}
-use borrow.Author.Rules.{rules}
 use Rattle.plan.proofs.assignments.check_assignment.Goals as goal
 
 pub returns-then-not-has_symbol : goal.returns-then-not-has_symbol

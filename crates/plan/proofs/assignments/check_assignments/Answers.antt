@@ -5,7 +5,6 @@ use mathlib.Core.Path.{sym}
 use Rattle.model.specs.Tests.{◌==◌}
 use Rattle.model.specs.Layout.{plan_of}
 use Rattle.model.specs.Needs.{assignment_count_check}
-use borrow.Author.Rules.{rules}
 use Rattle.plan.proofs.assignments.check_assignments.Goals as goal
 use Rattle.plan.proofs.assignments.check_assignments.Goals.{After-plan_section-statements}
 

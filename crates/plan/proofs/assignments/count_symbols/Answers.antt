@@ -1,9 +1,4 @@
 -- The count before statement s is its symbol. Assumes nothing.
-use Prim.Native.Nat.{◌-◌, ◌/◌, ◌≤◌}
-use mathlib.Core.Path.{◌≡◌}
-use lib.ListN.{length}
-use Rattle.model.specs.Layout.{Plan}
-use Rattle.model.specs.Needs.{symbol}
 use Rattle.plan.proofs.Symbols.{symbol_first, symbols_counted}
 use borrow.Author.Rules.{rules}
 use Rattle.plan.proofs.assignments.count_symbols.Goals as goal

@@ -4,8 +4,6 @@ use mathlib.Core.Path.{◌≡◌}
 use lib.ListN.{length}
 use Rattle.model.specs.Layout.{Plan}
 use Rattle.model.specs.Needs.{symbol}
-use Rattle.plan.proofs.Symbols.{symbol_first, symbols_counted}
-use borrow.Author.Rules.{rules}
 use Rattle.plan.proofs.assignments.count_symbols.Given as goal
 
 abbrev pub invariant-loop-s : goal.invariant-loop-s

@@ -2,7 +2,6 @@
 use Rattle.model.specs.Tests.{◌or◌}
 use Rattle.model.specs.Statements.{opens, accesses}
 use Rattle.model.specs.Needs.{has_symbol}
-use borrow.Author.Rules.{rules}
 use Rattle.plan.proofs.assignments.has_symbol.Goals as goal
 
 pub returns : goal.returns

@@ -2,7 +2,6 @@
 use mathlib.Core.Path.{◌∙◌}
 use Rattle.plan.proofs.Symbols.{opens_read}
 use Rattle.plan.proofs.AssignedNodes.{loop_region, access_region}
-use borrow.Author.Rules.{rules}
 use Rattle.plan.proofs.assignments.symbol_region.Goals as goal
 
 pub returns-then-opens_loop : goal.returns-then-opens_loop

@@ -1,12 +1,11 @@
 -- The pass keeps the bounds and the needs of the statements before s in their tables. Assumes nothing.
-use Prim.Native.Nat.{◌-◌, ◌/◌, ◌<◌}
+use Prim.Native.Nat.{◌/◌, ◌<◌}
 use mathlib.Core.Path.{◌≡◌, sym, ap}
 use native.Mathlib.Omega.{arith}
 use lib.ListN.{length}
 use borrow.Author.Rules.{rules as auto}
-use Rattle.model.specs.Layout.{Plan, statement_count}
-use Rattle.plan.specs.Needs.{NeedSources}
-use Rattle.plan.proofs.NeedTables.{NeedsTurn, NeedsSoFar, turn_starts, needs_start, needs_next}
+use Rattle.model.specs.Layout.{statement_count}
+use Rattle.plan.proofs.NeedTables.{turn_starts, needs_start, needs_next}
 use Rattle.plan.proofs.needs.list_needs.Goals as goal
 
 pub loop-s-init : goal.loop-s-init

@@ -4,7 +4,6 @@ use Rattle.model.specs.Tests.{◌and◌}
 use Rattle.model.specs.Layout.{Plan}
 use Rattle.model.specs.Statements.{opens}
 use Rattle.plan.proofs.Symbols.{opens_read}
-use borrow.Author.Rules.{rules}
 use Rattle.plan.proofs.needs.needs_disjoint.Goals as goal
 use Rattle.plan.proofs.needs.needs_disjoint.Goals.{After-opens_loop}
 

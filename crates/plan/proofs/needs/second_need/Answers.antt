@@ -1,6 +1,5 @@
 -- By the test. Assumes nothing.
 use mathlib.Core.Path.{sym, ◌∙◌}
-use borrow.Author.Rules.{rules}
 use Rattle.model.proofs.Tests.{pick_true, pick-false}
 use Rattle.plan.specs.Needs.{second_need}
 use Rattle.plan.proofs.needs.second_need.Goals as goal

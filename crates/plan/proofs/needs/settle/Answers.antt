@@ -1,13 +1,12 @@
 -- Before each need, what is left to settle decides; before each step, what is left to search finds the need's step. Assumes nothing.
-use Prim.Native.Nat.{ℕ, ◌-◌}
+use Prim.Native.Nat.{ℕ}
 use native.Mathlib.Omega.{arith}
 use lib.ListN.{get_or, length-replicate}
-use borrow.Author.Rules.{rules as auto}
 use borrow.Author.Tests.{ne_eqb}
 use Rattle.model.specs.Tests.{◌==◌}
 use Rattle.model.proofs.Tests.{same! }
-use Rattle.primitives.proofs.Searching.{Searching, searching_start, searching_next, searching_found, searching_end}
-use Rattle.plan.proofs.Settling.{Searched, SettledBefore, settling_starts, settling_unasked, settling_found, settling_unmet, settling_ends}
+use Rattle.primitives.proofs.Searching.{searching_start, searching_next, searching_found, searching_end}
+use Rattle.plan.proofs.Settling.{Searched, settling_starts, settling_unasked, settling_found, settling_unmet, settling_ends}
 use Rattle.plan.proofs.needs.settle.Goals as goal
 use Rattle.plan.proofs.needs.settle.Goals.{Joined-t-steps, then-t-steps, else-t-steps+then-conclusions-t}
 

@@ -13,27 +13,24 @@ small : {n nodes : _} → n ≤ nodes → nodes ≤ 48 → n < 256
 small h few = omega arith
 
 pub returns-in-For : goal.returns-in-For
-returns-in-For c =
-    (
-      (λ P known own. loop_bound known _ c.kind_at.ensures c.in-For.is refl _ c.byte_at.ensures.0 own),
-      c.byte_at.ensures.1,
-    )
+returns-in-For c = (
+  (λ P known own. loop_bound known _ c.kind_at.ensures c.in-For.is refl _ c.byte_at.ensures.0 own),
+  c.byte_at.ensures.1,
+)
 
 pub returns-in-Load : goal.returns-in-Load
-returns-in-Load c =
-    (
-      (λ P known own. image_bound known _ c.kind_at.ensures c.in-Load.is (inl refl) _
-          (c.image_node.ensures.0 P known.keyed) c.byte_at-map.ensures.0),
-      small c.image_node.ensures.1 c.requires.few_nodes,
-    )
+returns-in-Load c = (
+  (λ P known own. image_bound known _ c.kind_at.ensures c.in-Load.is (inl refl) _
+      (c.image_node.ensures.0 P known.keyed) c.byte_at-map.ensures.0),
+  small c.image_node.ensures.1 c.requires.few_nodes,
+)
 
 pub returns-in-Call : goal.returns-in-Call
-returns-in-Call c =
-    (
-      (λ P known own. image_bound known _ c.kind_at.ensures c.in-Call.is (inr refl) _
-          (c.image_node-in-Call.ensures.0 P known.keyed) c.byte_at-map.ensures.0),
-      small c.image_node-in-Call.ensures.1 c.requires.few_nodes,
-    )
+returns-in-Call c = (
+  (λ P known own. image_bound known _ c.kind_at.ensures c.in-Call.is (inr refl) _
+      (c.image_node-in-Call.ensures.0 P known.keyed) c.byte_at-map.ensures.0),
+  small c.image_node-in-Call.ensures.1 c.requires.few_nodes,
+)
 
 pub returns-in-Copy : goal.returns-in-Copy
 unfolding defines_variable opens_loop

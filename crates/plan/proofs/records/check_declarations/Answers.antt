@@ -1,7 +1,6 @@
 -- Each reader speaks of every plan of its sections, and so of this one. Assumes nothing.
 use mathlib.Core.Path.{sym}
 use Rattle.model.specs.Layout.{plan_of}
-use borrow.Author.Rules.{rules}
 use Rattle.plan.proofs.records.check_declarations.Goals as goal
 
 pub returns : goal.returns

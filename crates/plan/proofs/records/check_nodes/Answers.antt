@@ -1,6 +1,5 @@
 -- The reader speaks of every plan of its sections, and so of this one. Assumes nothing.
 use mathlib.Core.Path.{sym}
-use borrow.Author.Rules.{rules}
 use Rattle.plan.proofs.records.check_nodes.Goals as goal
 
 pub check_nodes-requires : goal.check_nodes-requires

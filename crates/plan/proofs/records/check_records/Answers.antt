@@ -1,13 +1,12 @@
 -- Stage by stage, what is left decides while all before passed (Stages). Assumes nothing.
 use mathlib.Core.Path.{◌≡◌, sym, ◌∙◌}
 use Rattle.model.specs.Outcomes.{◌then◌}
-use Rattle.model.specs.Layout.{Plan, plan_of}
+use Rattle.model.specs.Layout.{plan_of}
 use Rattle.model.specs.Verdict.{records_check, statements_check, loops_check, nodes_check, steps_check, needs_check}
 use Rattle.loops.specs.Section.{StatementsChecked}
 use Rattle.plan.specs.Assignments.{counted_assignments_check}
 use Rattle.primitives.proofs.Stages.{stage_passed, stage_refused}
 use Rattle.plan.proofs.Stages.{in_stages, records_refused, assignment_tables, need_tables}
-use borrow.Author.Rules.{rules}
 use Rattle.plan.proofs.records.check_records.Goals as goal
 use Rattle.plan.proofs.records.check_records.Goals.{After-check_assignments-assigned, After-check_statements-statements, In_default}
 
@@ -80,4 +79,3 @@ returns c =
       outcome = (c.check_needs-settled.ensures tables).outcome ∙ sym seven;
       node_regions_lem = λ pass. nodes.regions c.in_default-nodes_outcome.is;
     }
-

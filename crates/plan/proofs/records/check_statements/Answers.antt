@@ -1,7 +1,6 @@
 -- The reader speaks of every plan of its sections, and so of this one. Assumes nothing.
 use mathlib.Core.Path.{sym}
 use Rattle.plan.proofs.Stages.{few_fields}
-use borrow.Author.Rules.{rules}
 use Rattle.plan.proofs.records.check_statements.Goals as goal
 
 pub check_statements_and_loops-requires : goal.check_statements_and_loops-requires

@@ -1,7 +1,6 @@
 -- A section that the frame delimits. Assumes nothing.
 use native.Mathlib.Omega.{arith}
 use Rattle.primitives.proofs.Bodies.{fewer}
-use borrow.Author.Rules.{rules}
 use Rattle.plan.proofs.sections.plan_section.Goals as goal
 
 pub section_body-requires : goal.section_body-requires

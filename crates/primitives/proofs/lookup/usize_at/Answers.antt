@@ -1,7 +1,6 @@
 -- Past the end the table's default is meant. Assumes nothing.
 use mathlib.Core.Path.{sym}
 use lib.ListN.{get_or-eq_default}
-use borrow.Author.Rules.{rules}
 use Rattle.primitives.proofs.lookup.usize_at.Goals as goal
 
 pub returns-else-i-table : goal.returns-else-i-table

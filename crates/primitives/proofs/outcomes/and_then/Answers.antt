@@ -1,5 +1,4 @@
 -- By the two cases of the first outcome. Assumes nothing.
-use borrow.Author.Rules.{rules}
 use Rattle.model.specs.Outcomes.{◌then◌}
 use Rattle.primitives.proofs.outcomes.and_then.Goals as goal
 

@@ -1,5 +1,4 @@
 -- By the two cases of the outcome. Assumes nothing.
-use borrow.Author.Rules.{rules}
 use Rattle.model.specs.Outcomes.{conclude}
 use Rattle.primitives.proofs.outcomes.conclude.Goals as goal
 

@@ -1,5 +1,4 @@
 -- The byte of the section is that of every plan with this section. Assumes nothing.
-use borrow.Author.Rules.{rules}
 use Rattle.primitives.proofs.records.map_target.Goals as goal
 
 pub returns : goal.returns

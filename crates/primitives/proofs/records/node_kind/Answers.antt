@@ -1,5 +1,4 @@
 -- The kind of the section's byte is that of every plan with this section. Assumes nothing.
-use borrow.Author.Rules.{rules}
 use mathlib.Core.Path.{◌∙◌, ap}
 use Rattle.model.specs.Nodes.{node_kind_of, node_kind_at}
 use Rattle.primitives.proofs.records.node_kind.Goals as goal

@@ -1,5 +1,5 @@
 -- By the seven bytes that stand for a kind; any other stands for none. Assumes nothing.
-use Prim.Native.Nat.{ℕ, suc, ◌≤◌, zero-le}
+use Prim.Native.Nat.{ℕ, suc, ◌≤◌}
 use mathlib.Core.Path.{◌≡◌, sym}
 use native.Mathlib.Omega.{arith}
 use Rattle.model.specs.Nodes.{node_kind_of}

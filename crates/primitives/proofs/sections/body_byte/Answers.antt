@@ -17,6 +17,7 @@ record Ends (s : Bytes) (frame : Frame) (n : ℕ) : Type 0 where
   pub end : get_or frame.boundaries (n + 1) 0 ≡ boundary s n + 2 + u16 s (boundary s n)
   pub near : boundary s n ≤ 1 + n * 65537
   pub short : u16 s (boundary s n) < 65536
+
 ends : (s : Bytes) {frame : Frame} {n : ℕ} → n < 8 → frame ≡ frame_of (n + 1) s → ((i : ℕ) → get_or s i 0 < 256) → Ends s frame n
 ends s {frame} {n} few e bytes =
     record {

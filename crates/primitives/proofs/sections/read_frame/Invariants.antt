@@ -1,8 +1,6 @@
 -- After each section the places so far are stored (Bodies). Assumes nothing.
 use Prim.Native.Nat.{◌-◌, ◌≤◌}
-use native.Mathlib.Omega.{arith}
-use borrow.Author.Rules.{rules}
-use Rattle.primitives.proofs.Bodies.{Located, located_start, located_next, located_end, boundary_most}
+use Rattle.primitives.proofs.Bodies.{Located}
 use Rattle.primitives.proofs.sections.read_frame.Given as goal
 
 abbrev pub invariant-loop-n : goal.invariant-loop-n

@@ -5,7 +5,6 @@ use mathlib.Core.Path.{◌≡◌}
 use native.Mathlib.Numerals.{add-one}
 use native.Mathlib.Omega.{arith}
 use lib.ListN.{get_or, length}
-use borrow.Author.Rules.{rules}
 use Rattle.model.specs.Bytes.{Bytes, boundary}
 use Rattle.primitives.specs.declared.sections.Frame.{Frame}
 use Rattle.primitives.specs.Sections.{Delimits}

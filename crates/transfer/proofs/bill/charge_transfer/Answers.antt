@@ -1,7 +1,6 @@
 -- What passes is counted and priced (Bills). Assumes nothing.
 use Prim.Native.Nat.{◌≤◌}
 use mathlib.Core.Path.{◌≡◌, sym, ◌∙◌}
-use borrow.Author.Rules.{rules}
 use Rattle.model.specs.Outcomes.{conclude_charge}
 use Rattle.model.specs.Layout.{plan_of}
 use Rattle.model.specs.Fetches.{BothExist}

@@ -3,9 +3,8 @@ use Prim.Native.Nat.{◌/◌, ◌<◌}
 use mathlib.Core.Path.{◌≡◌, sym, ap, ◌∙◌}
 use native.Mathlib.Omega.{arith}
 use lib.ListN.{length}
-use borrow.Author.Rules.{rules}
 use Rattle.model.specs.Bytes.{Bytes}
-use Rattle.model.specs.Layout.{Plan, plan_of, node_count}
+use Rattle.model.specs.Layout.{plan_of, node_count}
 use Rattle.model.specs.Nodes.{node_region}
 use Rattle.primitives.proofs.Bodies.{fewer}
 use Rattle.transfer.proofs.Bills.{no_node, regions_differ, price_too_high, chargeable}

@@ -4,7 +4,6 @@ use mathlib.Core.Path.{◌≡◌, subst}
 use mathlib.Core.Logic.{inl, inr}
 use native.Mathlib.Nat.{mul-le-mul}
 use native.Mathlib.Omega.{arith}
-use borrow.Author.Rules.{rules}
 use Rattle.model.specs.Layout.{plan_of, node_count}
 use Rattle.model.specs.DataSets.{data_of}
 use Rattle.model.specs.Transfers.{transfer_count}

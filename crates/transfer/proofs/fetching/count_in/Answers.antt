@@ -4,7 +4,6 @@ use Prim.Native.Nat.{◌*◌, ◌≤◌}
 use mathlib.Core.Path.{◌∙◌}
 use native.Mathlib.Nat.{mul-le-mul}
 use native.Mathlib.Omega.{arith}
-use borrow.Author.Rules.{rules}
 use Rattle.model.proofs.Fitting.{fit}
 use Rattle.transfer.proofs.Fetched.{node_room, ones_counted}
 use Rattle.transfer.proofs.fetching.count_in.Goals as goal
