@@ -16,10 +16,10 @@ use Rattle.provenance.specs.Chain.{PairSources}
 use Rattle.provenance.proofs.NextPairs.{few_nodes, few_elements}
 use Rattle.provenance.proofs.Walks.{Walk, walk_start, walk_near, walk_pair, next_pair_lem, next_room, walk_next, walk_end}
 use Rattle.provenance.proofs.chain.trace.Goals as goal
-use Rattle.provenance.proofs.chain.trace.Goals.{In-loop-node, After-next_pair-next}
+use Rattle.provenance.proofs.chain.trace.Goals.{At-loop-node, After-next_pair-next}
 
 -- the pair at hand, for the plan, data and question that it was called with
-pair_here : (c : In-loop-node) →
+pair_here : (c : At-loop-node) →
     (let a = c.args in
     PairSources c.requires.plan c.requires.bytes a.question a.nodes.now a.node_regions.now a.sizes.now a.entries.now a.entry_starts.now a.words.now
     (pair_of c.loop-node.node c.loop-node.element))
@@ -73,10 +73,10 @@ loop-node-init c = record {
 }
 
 pub node_kind-requires : goal.node_kind-requires
-node_kind-requires c = omega (arith, few_nodes (pair_here (goal.at.node_kind-requires c).In-loop-node))
+node_kind-requires c = omega (arith, few_nodes (pair_here c))
 
 pub next_pair-next-requires : goal.next_pair-next-requires
-next_pair-next-requires c = record { plan = _; bytes = _; question = _; sources = pair_here (goal.at.next_pair-next-requires c).In-loop-node }
+next_pair-next-requires c = record { plan = _; bytes = _; question = _; sources = pair_here (goal.at.next_pair-next-requires c).At-loop-node }
 
 pub overflow_add-last : goal.overflow_add-last
 overflow_add-last c = omega (arith, room (goal.at.overflow_add-last c).After-next_pair-next)
