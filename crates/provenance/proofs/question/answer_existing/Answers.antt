@@ -7,7 +7,7 @@ use mathlib.Core.List.{List}
 use native.Mathlib.Omega.{arith}
 use lib.Dec.{ltb}
 use lib.ListN.{length}
-use borrow.Author.Tests.{ltb-true, ltb-false}
+use Rattle.std.proofs.lemmas.Bool.Decides.{nat_tests}
 use Rattle.model.specs.Bytes.{Bytes}
 use Rattle.model.specs.Layout.{plan_of}
 use Rattle.model.specs.DataSets.{data_of}
@@ -47,18 +47,10 @@ held c = c.holds.ensures ∙ (words_filled _ c.requires c.fill_piece.ensures).he
 
 -- a slice that is too short, or none
 short : (a b n : ℕ) → (ltb a n || ltb b n) ≡ true → (a < n) ⊎ (b < n)
-short a b n h = go (ltb a n) refl h
-  where
-    go : (t : Bool) → ltb a n ≡ t → (t || ltb b n) ≡ true → (a < n) ⊎ (b < n)
-    go true e h = inl (ltb-true a n e)
-    go false e h = inr (ltb-true b n h)
+short a b n h = grind (arith, nat_tests)
 
 roomy : (a b n : ℕ) → (ltb a n || ltb b n) ≡ false → (n ≤ a) × (n ≤ b)
-roomy a b n h = go (ltb a n) refl h
-  where
-    go : (t : Bool) → ltb a n ≡ t → (t || ltb b n) ≡ false → (n ≤ a) × (n ≤ b)
-    go true e h = falsum (sym h)
-    go false e h = (ltb-false a n e, ltb-false b n h)
+roomy a b n h = grind (arith, nat_tests)
 
 pub fill_piece-requires : goal.fill_piece-requires
 fill_piece-requires c =

@@ -23,8 +23,3 @@ answer_existing-requires-else-question-lt8 c =
     let e = exist (plan_of a.plan.now) (data_of a.«data».now) a.question there in
     record { inputs = c.requires; exists = there; room = omega (arith, e.node_listed, c.requires.accepted.limits.few_nodes) }
 
-pub returns-then-question-lt8 : goal.returns-then-question-lt8
-returns-then-question-lt8 c = c.answer_existing.ensures
-
-pub returns-else-question-lt8 : goal.returns-else-question-lt8
-returns-else-question-lt8 c = c.answer_existing-else-question-lt8.ensures
