@@ -14,7 +14,7 @@ use Rattle.model.specs.declared.Pair.{Pair}
 use Rattle.model.proofs.Tests.{failing}
 use Rattle.provenance.specs.Chain.{PairSources}
 use Rattle.provenance.proofs.NextPairs.{few_nodes, few_elements}
-use Rattle.provenance.proofs.Walks.{Walk, walk_start, walk_near, walk_pair, next_pair_lem, next_room, walk_next, walk_end}
+use Rattle.provenance.proofs.Walks.{walk_start, walk_near, walk_pair, next_pair_lem, next_room, walk_next, walk_end}
 use Rattle.provenance.proofs.chain.trace.Goals as goal
 use Rattle.provenance.proofs.chain.trace.Goals.{At-loop-node, After-next_pair-next}
 

@@ -16,7 +16,7 @@ invariant-loop-node l = record {
   nodes_length : length l.chain_nodes ≡ 48;
   elements_length : length l.chain_elements ≡ 48;
   walk : (P : Plan) (d : Bytes) (q : Question) → (S : PairSources P d q l.nodes l.node_regions l.sizes l.entries l.entry_starts l.words (questioned P (data_of d) q)) →
-    q.node ≡ l.initial.node → q.element ≡ l.initial.element → Walk S l.chain_nodes l.chain_elements l.node l.element l.last;
+      q.node ≡ l.initial.node → q.element ≡ l.initial.element → Walk S l.chain_nodes l.chain_elements l.node l.element l.last;
 }
 
 abbrev pub decreases-loop-node : goal.decreases-loop-node

@@ -1,8 +1,8 @@
 -- Stage by stage, what is left decides while all before passed (Questions). Assumes nothing.
 use Prim.Native.Nat.{ℕ, ◌+◌, ◌≤◌, ◌<◌}
 use mathlib.Core.Path.{◌≡◌, refl, sym, ◌∙◌}
-use mathlib.Core.Logic.{◌⊎◌, inl, inr}
-use mathlib.Core.Bool.{Bool, true, false, ◌||◌}
+use mathlib.Core.Logic.{◌⊎◌}
+use mathlib.Core.Bool.{true, false, ◌||◌}
 use mathlib.Core.List.{List}
 use native.Mathlib.Omega.{arith}
 use lib.Dec.{ltb}
@@ -12,9 +12,7 @@ use Rattle.model.specs.Bytes.{Bytes}
 use Rattle.model.specs.Layout.{plan_of}
 use Rattle.model.specs.DataSets.{data_of}
 use Rattle.model.specs.Membership.{member}
-use Rattle.model.specs.Tests.{Is}
 use Rattle.model.specs.declared.Question.{Question}
-use Rattle.model.proofs.Tests.{falsum}
 use Rattle.model.proofs.Fitting.{fit}
 use Rattle.plan.specs.declared.Reading.{Reading}
 use Rattle.dataset.specs.declared.layout.DataLayout.{DataLayout}

@@ -22,4 +22,3 @@ answer_existing-requires-else-question-lt8 c =
     let there = sym c.check_existence.ensures ∙ c.in_default.is in
     let e = exist (plan_of a.plan.now) (data_of a.«data».now) a.question there in
     record { inputs = c.requires; exists = there; room = omega (arith, e.node_listed, c.requires.accepted.limits.few_nodes) }
-

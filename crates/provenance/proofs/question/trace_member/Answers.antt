@@ -1,6 +1,5 @@
 -- The sections are those of plan and data set. Assumes nothing.
 use native.Mathlib.Omega.{arith}
-use borrow.Author.Rules.{rules}
 use Rattle.model.specs.Layout.{plan_of}
 use Rattle.model.specs.DataSets.{data_of}
 use Rattle.model.specs.Provenance.{questioned}
