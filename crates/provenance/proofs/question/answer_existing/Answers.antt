@@ -20,7 +20,7 @@ use Rattle.evaluate.specs.Words.{piece_filled}
 use Rattle.provenance.specs.Question.{ExistingReady}
 use Rattle.provenance.proofs.Questions.{Exist, Filled, exist, element_few, filled, answered_refused, no_member, no_room, answered}
 use Rattle.provenance.proofs.question.answer_existing.Goals as goal
-use Rattle.provenance.proofs.question.answer_existing.Goals.{After-holds, After-trace_member-chain}
+use Rattle.provenance.proofs.question.answer_existing.Goals.{After-holds}
 
 -- what is asked about exists, and is of few nodes and few elements
 module _ {p : Bytes} {reading : Reading} {d : Bytes} {layout : DataLayout} {q : Question} {lent : ℕ} (ready : ExistingReady p reading d layout q lent) where
@@ -43,7 +43,7 @@ held : (c : After-holds) →
     (let a = c.args in c.holds.result ≡ member (plan_of a.plan.now) (data_of a.«data».now) a.question.node a.question.piece a.question.element)
 held c = c.holds.ensures ∙ (words_filled _ c.requires c.fill_piece.ensures).held _ _ (omega arith) (few c.requires)
 
--- a slice that is too short, or none
+-- one of two slices is too short, or both have room
 short : (a b n : ℕ) → (ltb a n || ltb b n) ≡ true → (a < n) ⊎ (b < n)
 short a b n h = grind (arith, nat_tests)
 
