@@ -1,5 +1,4 @@
 -- By the eight kinds. Assumes nothing.
-use borrow.Author.Rules.{rules}
 use Rattle.model.specs.Provenance.{ends_by}
 use Rattle.provenance.proofs.chain.ends_chain.Goals as goal
 

@@ -1,10 +1,9 @@
 -- Before position k the chain's pairs stand in both slices. Assumes nothing.
-use Prim.Native.Nat.{ℕ, ◌+◌, ◌-◌, ◌≤◌}
+use Prim.Native.Nat.{ℕ, ◌+◌}
 use mathlib.Core.Path.{◌≡◌, refl}
 use native.Mathlib.Omega.{arith}
 use mathlib.Core.List.{List}
-use lib.ListN.{length, get_or, set, length-set}
-use borrow.Author.Rules.{rules}
+use lib.ListN.{get_or, set, length-set}
 use Rattle.model.specs.Words.{store}
 use Rattle.model.proofs.Words.{store_next}
 use Rattle.provenance.proofs.chain.write_chain.Goals as goal
@@ -16,21 +15,22 @@ written_next list old chain k is =
 
 pub loop-k-init : goal.loop-k-init
 unfolding store
-loop-k-init c = (omega arith, refl, refl, refl, refl)
+loop-k-init c = record { inside = omega arith; nodes_length = refl; elements_length = refl; nodes_are = refl; elements_are = refl }
 
 pub loop-k-preserved : goal.loop-k-preserved
 loop-k-preserved c =
-    let l = c.loop-k in
-    let a = c.args in (
-      omega arith,
-      simp length-set l.invariant.1,
-      simp length-set l.invariant.2,
-      written_next _ _ a.chain.nodes _ l.invariant.3,
-      written_next _ _ a.chain.elements _ l.invariant.4,
-    )
+    let h = c.loop-k.invariant in
+    let chain = c.args.chain in
+    record {
+      inside = omega arith;
+      nodes_length = simp length-set h.nodes_length;
+      elements_length = simp length-set h.elements_length;
+      nodes_are = written_next _ _ chain.nodes _ h.nodes_are;
+      elements_are = written_next _ _ chain.elements _ h.elements_are;
+    }
 
 pub returns : goal.returns
 returns c =
-    let l = c.loop-k in
-    let end : l.k ≡ c.args.chain.length = omega arith in
-    record { nodes_are = rw end at l.invariant.3; elements_are = rw end at l.invariant.4 }
+    let h = c.loop-k.invariant in
+    let end : c.loop-k.k ≡ c.args.chain.length = omega arith in
+    record { nodes_are = rw end at h.nodes_are; elements_are = rw end at h.elements_are }

@@ -1,43 +1,24 @@
 -- What exists is asked about further, in words enough for the nodes up to it (Questions). Assumes nothing.
--- the function's entry
-use mathlib.Core.Path.{◌≡◌, sym, ◌∙◌}
+use mathlib.Core.Path.{sym, ◌∙◌}
 use native.Mathlib.Omega.{arith}
-use borrow.Author.Rules.{rules}
 use Rattle.model.specs.Layout.{plan_of}
 use Rattle.model.specs.DataSets.{data_of}
-use Rattle.model.specs.declared.Outcome.TheVariants.{Pass}
-use Rattle.provenance.specs.Question.{existence_check}
 use Rattle.provenance.proofs.Questions.{exist, answered_refused, existence_refused}
 use Rattle.provenance.proofs.question.answer_question.Goals as goal
-use Rattle.provenance.proofs.question.answer_question.Goals.{After-check_existence, Start}
-
-abbrev start : After-check_existence → Start
-start c = x.before.before.before.before.before
-
--- what is asked about exists
-exists : (c : After-check_existence) → c.check_existence.result ≡ Pass →
-    (let a = (start x).args in existence_check (plan_of a.plan.now) (data_of a.«data».now) a.question ≡ Pass)
-exists c passed = sym c.check_existence.ensures ∙ passed
 
 pub returns-in-Refuse : goal.returns-in-Refuse
 returns-in-Refuse c =
-    let a = (start (goal.at.returns-in-Refuse c).After-check_existence).args in
+    let a = c.args in
     answered_refused a.plan.now a.«data».now a.question a.nodes.now a.elements.now
     (existence_refused a.plan.now a.«data».now a.question a.nodes.now a.elements.now c.check_existence.ensures c.in-Refuse.is)
 
 pub answer_existing-requires : goal.answer_existing-requires
 answer_existing-requires c =
-    record { inputs = (start (goal.at.answer_existing-requires c).After-check_existence).requires; exists = exists (goal.at.answer_existing-requires c).After-check_existence c.in_default.is; room = omega (arith, c.if-question-lt8.true) }
+    record { inputs = c.requires; exists = sym c.check_existence.ensures ∙ c.in_default.is; room = omega (arith, c.if-question-lt8.true) }
 
 pub answer_existing-requires-else-question-lt8 : goal.answer_existing-requires-else-question-lt8
 answer_existing-requires-else-question-lt8 c =
-    let there = exists (goal.at.answer_existing-requires-else-question-lt8 c).After-check_existence c.in_default.is in
-    let a = (start (goal.at.answer_existing-requires-else-question-lt8 c).After-check_existence).args in
+    let a = c.args in
+    let there = sym c.check_existence.ensures ∙ c.in_default.is in
     let e = exist (plan_of a.plan.now) (data_of a.«data».now) a.question there in
-    record { inputs = (start (goal.at.answer_existing-requires-else-question-lt8 c).After-check_existence).requires; exists = there; room = omega (arith, e.node_listed, (start (goal.at.answer_existing-requires-else-question-lt8 c).After-check_existence).requires.accepted.limits.few_nodes) }
-
-pub returns-then-question-lt8 : goal.returns-then-question-lt8
-returns-then-question-lt8 c = c.answer_existing.ensures
-
-pub returns-else-question-lt8 : goal.returns-else-question-lt8
-returns-else-question-lt8 c = c.answer_existing-else-question-lt8.ensures
+    record { inputs = c.requires; exists = there; room = omega (arith, e.node_listed, c.requires.accepted.limits.few_nodes) }

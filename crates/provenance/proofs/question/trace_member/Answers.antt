@@ -1,35 +1,27 @@
 -- The sections are those of plan and data set. Assumes nothing.
--- from the last section that is cut to the first, and on to the start
 use native.Mathlib.Omega.{arith}
-use borrow.Author.Rules.{rules}
 use Rattle.model.specs.Layout.{plan_of}
 use Rattle.model.specs.DataSets.{data_of}
 use Rattle.model.specs.Provenance.{questioned}
 use Rattle.primitives.proofs.Bodies.{fewer}
 use Rattle.provenance.specs.Chain.{PairSources}
 use Rattle.provenance.proofs.question.trace_member.Goals as goal
-use Rattle.provenance.proofs.question.trace_member.Goals.{After-section_body-entries, After-section_body-nodes, Start}
-
-abbrev nodes-cut : After-section_body-entries → After-section_body-nodes
-nodes-cut c = m.before.before.before.before
-
-abbrev start : After-section_body-entries → Start
-start c = (nodes-cut m).before.before.before.before
+use Rattle.provenance.proofs.question.trace_member.Goals.{After-section_body-entries}
 
 -- what the walk reads
 sources : (c : After-section_body-entries) →
-    (let a = (start m).args in
-    PairSources (plan_of a.plan.now) a.«data».now a.question (nodes-cut m).section-body.result.now a.reading.node_regions
+    (let a = c.args in
+    PairSources (plan_of a.plan.now) a.«data».now a.question c.section_body-nodes.result.now a.reading.node_regions
     c.section_body-sizes.result.now c.section_body-entries.result.now a.layout.entry_starts a.words.now
     (questioned (plan_of a.plan.now) (data_of a.«data».now) a.question))
 sources c =
-    let h = (start m).requires in
+    let h = c.requires in
     record {
       sources = record {
         facts = h.inputs.accepted.facts;
         limits = h.inputs.accepted.limits;
         fits = h.inputs.fits;
-        nodes_are = (nodes-cut m).section-body.ensures;
+        nodes_are = c.section_body-nodes.ensures;
         node_regions_are = h.inputs.accepted.node_regions_lem;
         sizes_are = c.section_body-sizes.ensures;
         entries_are = c.section_body-entries.ensures;
@@ -50,9 +42,6 @@ section_body-sizes-requires c = fewer c.requires.inputs.placed.delimited (omega 
 
 pub section_body-entries-requires : goal.section_body-entries-requires
 section_body-entries-requires c = fewer c.requires.inputs.placed.delimited (omega arith)
-
-pub slice_bounds-trace-end-2 : goal.slice_bounds-trace-end-2
-slice_bounds-trace-end-2 c = search ((start (goal.at.slice_bounds-trace-end-2 c).After-section_body-entries).well-formed.1.1.1.0, rules)
 
 pub trace-requires : goal.trace-requires
 trace-requires c = record { plan = _; bytes = _; sources = sources (goal.at.trace-requires c).After-section_body-entries }

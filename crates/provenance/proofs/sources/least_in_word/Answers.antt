@@ -3,9 +3,8 @@ use Prim.Native.Nat.{◌-◌}
 use mathlib.Core.Path.{sym, ◌∙◌}
 use native.Mathlib.Omega.{arith}
 use lib.Bits.{and_le_r}
-use borrow.Author.Rules.{rules}
 use Rattle.bitsets.proofs.Zeros.{Lowest, lowest}
-use Rattle.provenance.proofs.LeastSources.{Left, all_left, least_found, others_left, none_left}
+use Rattle.provenance.proofs.LeastSources.{all_left, least_found, others_left, none_left}
 use Rattle.provenance.proofs.sources.least_in_word.Goals as goal
 use Rattle.provenance.proofs.sources.least_in_word.Goals.{After-lowest-place}
 

@@ -1,7 +1,5 @@
 -- Word by word, until one has such an element. Assumes nothing.
-use Prim.Native.Nat.{◌-◌}
-use borrow.Author.Rules.{rules}
-use Rattle.provenance.proofs.LeastSources.{NoneBefore, none_yet, word_room, source_found, none_here, none_at_all}
+use Rattle.provenance.proofs.LeastSources.{none_yet, word_room, source_found, none_here, none_at_all}
 use Rattle.provenance.proofs.sources.least_source.Goals as goal
 
 pub loop-w-init : goal.loop-w-init

@@ -1,7 +1,6 @@
 -- Word by word, until one has such an element. Assumes nothing.
 use Prim.Native.Nat.{◌-◌}
-use borrow.Author.Rules.{rules}
-use Rattle.provenance.proofs.LeastSources.{NoneBefore, none_yet, word_room, source_found, none_here, none_at_all}
+use Rattle.provenance.proofs.LeastSources.{NoneBefore}
 use Rattle.provenance.proofs.sources.least_source.Given as goal
 
 abbrev pub invariant-loop-w : goal.invariant-loop-w
