@@ -2,12 +2,8 @@
 use native.Mathlib.Omega.{arith}
 use borrow.Author.Rules.{rules}
 use Rattle.model.specs.Packed.{pack}
-use Rattle.mavisglen.proofs.pack.Statement.{statement}
-use Rattle.mavisglen.proofs.pack.Tie as tie
+use Rattle.mavisglen.proofs.pack.Goals as goal
 
-returns : tie.Need-returns
+pub returns : goal.returns
 unfolding pack
 returns c = omega arith
-
-pub pack-spec : {M : Type 1} → statement M
-pack-spec = tie.close (tie.spec (λ c. search rules) returns)
