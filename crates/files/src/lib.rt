@@ -4,7 +4,8 @@
 ghost use Rattle.std.specs.Prelude.{IfOk};
 ghost use Rattle.files.specs.Counts.{IsPrefixLen};
 
-use std::io::{Eprint, Read};
+use std::fmt::Display;
+use std::io::Read;
 use std::rt::Files;
 use std::{fs, io, str};
 
@@ -39,8 +40,7 @@ fn read_named<R: Files>(rt: &R, name: &str, buffer: &mut [u8]) -> io::Result<usi
 }
 
 // Says on standard error why something failed: what it is, a colon and the error's text.
-pub fn fail<R: Eprint>(rt: &R, what: &[u8], error: io::Error) {
-    let what = what.escape_ascii();
+fn fail<R: Eprint, D: Display + Drop>(rt: &R, what: D, error: io::Error) {
     let _ = eprintln!(rt; "{what}: {error}");
 }
 
@@ -49,7 +49,11 @@ pub fn read_file<R: Files + Eprint>(rt: &R, path: &[u8], buffer: &mut [u8]) -> C
     ensures { IsPrefixLen result.length buffer.new }
 {
     let Ok(name) = str::from_utf8(path) else {
-        fail(rt, path, io::Error::from(io::ErrorKind::InvalidFilename));
+        fail(
+            rt,
+            path.escape_ascii(),
+            io::Error::from(io::ErrorKind::InvalidFilename),
+        );
         return Contents {
             is_read: false,
             length: 0,
@@ -61,7 +65,7 @@ pub fn read_file<R: Files + Eprint>(rt: &R, path: &[u8], buffer: &mut [u8]) -> C
             length,
         },
         Err(error) => {
-            fail(rt, path, error);
+            fail(rt, name, error);
             Contents {
                 is_read: false,
                 length: 0,
