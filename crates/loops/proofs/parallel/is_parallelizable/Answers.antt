@@ -13,43 +13,36 @@ use Rattle.loops.proofs.Classes.{entered-length}
 use Rattle.loops.proofs.SeenClasses.{Seen, seen_start, seen_next, not_parallelizable, seen_end}
 use borrow.Author.Rules.{rules}
 use Rattle.loops.proofs.parallel.is_parallelizable.Goals as goal
-use Rattle.loops.proofs.parallel.is_parallelizable.Goals.{After-enter_access, In-loop-s, Start}
+use Rattle.loops.proofs.parallel.is_parallelizable.Goals.{After-enter_access, In-loop-s}
 
-abbrev start : In-loop-s → Start
-start c = l.before.before.before.before.before.before
+-- statement s of the loop
+inside : (c : In-loop-s) (P : Plan) → LoopSpan P c.args.range.first c.args.range.end → c.loop-s.s < statement_count P
+inside c P span = omega (arith, span.bound, c.loop-s-test.true)
 
-abbrev Known : Start → Plan → Type 0
-Known c P = LoopsKnown P c.args.statements.now c.args.operands.now c.args.variable-regions.now c.args.centered.now
+in_loop : (c : In-loop-s) (P : Plan) → LoopSpan P c.args.range.first c.args.range.end → loop P c.loop-s.s ≡ c.args.range.first
+in_loop c P span = span.own c.loop-s.s c.loop-s.invariant.0 c.loop-s-test.true
 
-abbrev Span : Start → Plan → Type 0
-Span c P = LoopSpan P c.args.range.first c.args.range.end
+-- its access, what was seen with it, and whether it is admitted
+access_is : (c : After-enter_access) (P : Plan) → LoopsKnown P c.args.statements.now c.args.operands.now c.args.variable_regions.now c.args.centered.now →
+    c.loop_access-a.result ≡ access_at P c.loop-s.s
+access_is c P known = c.loop_access-a.ensures P known
+
+entered_is : (c : After-enter_access) (P : Plan) → LoopsKnown P c.args.statements.now c.args.operands.now c.args.variable_regions.now c.args.centered.now →
+    c.enter_access.new.seen ≡ entered (access_at P c.loop-s.s) c.loop-s.seen
+entered_is c P known = rw (access_is c P known) at c.enter_access.ensures.0
+
+admitted_is : (c : After-enter_access) (P : Plan) → LoopsKnown P c.args.statements.now c.args.operands.now c.args.variable_regions.now c.args.centered.now →
+    c.enter_access.result ≡ admitted (access_at P c.loop-s.s) (entered (access_at P c.loop-s.s) c.loop-s.seen)
+admitted_is c P known = rw (entered_is c P known, access_is c P known) at c.enter_access.ensures.1
 
 pub loop-s-init : goal.loop-s-init
 loop-s-init c = (search rules, refl, λ P known span. seen_start P _)
 
--- statement s of the loop
-module _ (l : tie.In-loop invariant-loop decreases-loop) (P : Plan) (span : Span (start l) P) where
-  inside : l.before.loop.s < statement_count P
-  inside = omega (arith, span.bound, l.loop-test.true)
-  in_loop : loop P l.before.loop.s ≡ (start l).args.range.first
-  in_loop = span.own l.before.loop.s l.before.loop.inv.0 l.loop-test.taken
--- its access, what was seen with it, and whether it is admitted
-module _ (m : tie.After-enter-access invariant-loop decreases-loop) (P : Plan) (known : Known (start m.before.before.before) P) where
-  abbrev access : LoopAccess
-  access = access_at P m.before.before.before.before.loop.s
-  abbrev seen : List ℕ
-  seen = entered access m.before.before.before.before.loop.seen
-  access_is : m.before.before.loop-access.result ≡ access
-  access_is = m.before.before.loop-access.ensures P known
-  entered_is : m.enter-access.last.0 ≡ seen
-  entered_is = rw access_is at m.enter-access.ensures.0
-  admitted_is : m.enter-access.result ≡ admitted access seen
-  admitted_is = rw (entered_is, access_is) at m.enter-access.ensures.1
 pub returns-then-not-enter_access : goal.returns-then-not-enter_access
 returns-then-not-enter_access c =
     λ P known span.
     sym (not_parallelizable P _ known.limits (c.loop-s.invariant.2 P known span) (in_loop (goal.at.returns-then-not-enter_access c).In-loop-s P span) (inside (goal.at.returns-then-not-enter_access c).In-loop-s P span)
-    (sym (admitted_is (goal.at.returns-then-not-enter_access c).After-enter_access P known) ∙ not-true _ c.if-not-enter_access.true))
+    (sym (admitted_is (goal.at.returns-then-not-enter_access c).After-enter_access P known) ∙ c.if-not-enter_access.true))
 
 pub loop-s-preserved : goal.loop-s-preserved
 loop-s-preserved c =
@@ -58,7 +51,7 @@ loop-s-preserved c =
       ap length c.enter_access.ensures.0 ∙ entered-length _ _ ∙ c.loop-s.invariant.1,
       λ P known span.
           rw (entered_is (goal.at.loop-s-preserved c).After-enter_access P known) (seen_next P _ (c.loop-s.invariant.2 P known span) (in_loop (goal.at.loop-s-preserved c).In-loop-s P span)
-          (sym (admitted_is (goal.at.loop-s-preserved c).After-enter_access P known) ∙ not-false _ c.if-not-enter_access.false)),
+          (sym (admitted_is (goal.at.loop-s-preserved c).After-enter_access P known) ∙ c.if-not-enter_access.false)),
     )
 
 pub returns : goal.returns

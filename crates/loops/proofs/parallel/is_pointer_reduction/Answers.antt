@@ -12,7 +12,7 @@ unfolding reduces uncentered ◌and◌ non
 returns c =
     λ P known inside. rw (
       c.is_reduce.ensures,
-      c.Access-of.ensures,
+      c.access_of-access.ensures,
       c.kind_at.ensures P known.section,
       operand_centered P known _ inside c.byte_at-operand.ensures.0 c.flag_at.ensures,
     )

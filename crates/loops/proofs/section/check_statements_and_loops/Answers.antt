@@ -17,30 +17,30 @@ use Rattle.loops.proofs.Accesses.{access_limits}
 use Rattle.loops.proofs.StatementLaws.{StatementPass, pass_start, context, pass_next, pass_end}
 use borrow.Author.Rules.{rules}
 use Rattle.loops.proofs.section.check_statements_and_loops.Goals as goal
-use Rattle.loops.proofs.section.check_statements_and_loops.Goals.{After-check_statement-checked, After-entry_of-entry, In-loop-s, Start}
-
-abbrev Sources : Start → Plan → Type 0
-Sources c P = StatementSources P c.args.regions.now c.args.maps.now c.args.statements.now
+use Rattle.loops.proofs.section.check_statements_and_loops.Goals.{After-check_statement-checked, After-entry_of-entry, In-loop-s}
 
 -- what holds where a turn of the loop begins
-module _ (l : tie.In-loop invariant-loop decreases-loop) (P : Plan) (from : Sources l.before.before.before.before.before P) where
-  pass-is : (let k = l.before.loop in StatementPass P k.s (variables_of k.count k.variables) k.operands k.variable-regions k.centered)
-  pass-is = l.before.loop.invariant.4 P from
-  inside : l.before.loop.s < statement_count P
-  inside = rw from.statements_are l.loop-test.taken
+pass_is : (c : In-loop-s) (P : Plan) → StatementSources P c.args.regions.now c.args.maps.now c.args.statements.now →
+    (let k = c.loop-s in StatementPass P k.s (variables_of k.count k.variables) k.operands k.variable_regions k.centered)
+pass_is c P from = c.loop-s.invariant.4 P from
+
+inside : (c : In-loop-s) (P : Plan) → StatementSources P c.args.regions.now c.args.maps.now c.args.statements.now → c.loop-s.s < statement_count P
+inside c P from = rw from.statements_are c.loop-s-test.true
+
 few : (c : In-loop-s) → c.loop-s.s < 64
 few c = omega (arith, c.loop-s-test.true, c.requires)
 
-entry_is : (c : After-entry_of-entry) (P : Plan) → (Sources k.before.before.before.before P → EntryAt P c.loop-s.s c.entry_of-entry.result)
+entry_is : (c : After-entry_of-entry) (P : Plan) → StatementSources P c.args.regions.now c.args.maps.now c.args.statements.now → EntryAt P c.loop-s.s c.entry_of-entry.result
 entry_is c P from =
-    let pass = pass-is e.before.before.before.before.before P from in
+    let pass = c.loop-s.invariant.4 P from in
     c.entry_of-entry.ensures P from.maps_are (c.statement_at-statement.ensures P from.statements_are)
     (record { definitions_are = pass.variables_are.defined; regions_are = pass.tables.regions_are; centers_are = pass.tables.centers_are })
 
-outcome-is : (c : After-check_statement-checked) (P : Plan) → (Sources k.before.before.before.before P → c.check_statement-checked.result ≡ statement_check P c.loop-s.s)
-outcome-is c P from =
+outcome_is : (c : After-check_statement-checked) (P : Plan) → StatementSources P c.args.regions.now c.args.maps.now c.args.statements.now → c.loop-s.s < 64 → EntryAt P c.loop-s.s c.entry_of-entry.result →
+    c.check_statement-checked.result ≡ statement_check P c.loop-s.s
+outcome_is c P from lt entry =
     c.check_statement-checked.ensures P from.regions_are from.maps_are (c.statement_at-statement.ensures P from.statements_are)
-    (context P (pass-is l P from) (few l) (entry_is e P from) c.usize_of.ensures.0 c.byte_at-region.ensures.0)
+    (context P (c.loop-s.invariant.4 P from) lt entry c.usize_of.ensures.0 c.byte_at-region.ensures.0)
 
 pub loop-s-init : goal.loop-s-init
 loop-s-init c = (refl, refl, refl, refl, λ P from. pass_start P)
@@ -50,7 +50,7 @@ unfolding ◌then◌
 returns-in-Refuse c =
     let refused = c.refuse_statements.ensures in
     λ P from.
-    let first = scanning_refused (pass-is (goal.at.returns-in-Refuse c).In-loop-s P from).scanning (inside (goal.at.returns-in-Refuse c).In-loop-s P from) (outcome-is (goal.at.returns-in-Refuse c).After-check_statement-checked P from) c.in-Refuse.is in
+    let first = scanning_refused (pass_is (goal.at.returns-in-Refuse c).In-loop-s P from).scanning (inside (goal.at.returns-in-Refuse c).In-loop-s P from) (outcome_is (goal.at.returns-in-Refuse c).After-check_statement-checked P from (few (goal.at.returns-in-Refuse c).In-loop-s) (entry_is (goal.at.returns-in-Refuse c).After-entry_of-entry P from)) c.in-Refuse.is in
     record { outcome = refused ∙ ap (λ (o : Outcome). o then loops_check P) first; tables = λ h. never (sym refused ∙ h) }
 
 pub loop-s-preserved : goal.loop-s-preserved
@@ -61,7 +61,7 @@ loop-s-preserved c =
       search rules,
       c.enter_variable-count.ensures.0,
       λ P from.
-          pass_next P (pass-is (goal.at.loop-s-preserved c).In-loop-s P from) (few (goal.at.loop-s-preserved c).In-loop-s) (entry_is (goal.at.loop-s-preserved c).After-entry_of-entry P from) (inside (goal.at.loop-s-preserved c).In-loop-s P from) (outcome-is (goal.at.loop-s-preserved c).After-check_statement-checked P from) c.in_default.is
+          pass_next P (pass_is (goal.at.loop-s-preserved c).In-loop-s P from) (few (goal.at.loop-s-preserved c).In-loop-s) (entry_is (goal.at.loop-s-preserved c).After-entry_of-entry P from) (inside (goal.at.loop-s-preserved c).In-loop-s P from) (outcome_is (goal.at.loop-s-preserved c).After-check_statement-checked P from (few (goal.at.loop-s-preserved c).In-loop-s) (entry_is (goal.at.loop-s-preserved c).After-entry_of-entry P from)) c.in_default.is
           (c.statement_at-statement.ensures P from.statements_are).kind_is c.enter_variable-count.ensures.1,
     )
 

@@ -18,10 +18,10 @@ unfolding variables_after pick
 returns-then-opens_loop c = (search rules, rw (sym c.opens_loop.ensures ∙ c.if-opens_loop.true))
 
 pub bounds-definitions-count : goal.bounds-definitions-count
-bounds-definitions-count c = omega (arith, room c)
+bounds-definitions-count c = omega (arith, room (goal.at.bounds-definitions-count c).Then-defines_variable-count)
 
 pub overflow_add-result : goal.overflow_add-result
-overflow_add-result c = omega (arith, room c)
+overflow_add-result c = omega (arith, room (goal.at.overflow_add-result c).Then-defines_variable-count)
 
 pub returns-then-defines_variable-count : goal.returns-then-defines_variable-count
 unfolding variables_after pick ◌and◌ ◌<?◌

@@ -1,0 +1,23 @@
+-- The loop has the members of each needed node passed in its words. Assumes nothing.
+use Prim.Native.Nat.{ℕ, ◌+◌, ◌-◌, ◌≤◌}
+use mathlib.Core.Path.{◌≡◌, refl, sym, ap, ◌∙◌}
+use mathlib.Core.Logic.{⊎_elim}
+use mathlib.Core.List.{List}
+use native.Mathlib.Omega.{arith}
+use lib.ListN.{length}
+use Rattle.model.specs.Bytes.{Bytes}
+use Rattle.model.specs.Layout.{Plan}
+use Rattle.model.specs.DataSets.{data_of}
+use Rattle.model.proofs.Fitting.{fit}
+use Rattle.subregions.specs.Fill.{node_filled, filled_up_to, span_filled, FillSources}
+use Rattle.subregions.proofs.AllNodes.{few_nodes_spanned, node_sources, passed_length, node_next, node_skipped}
+use borrow.Author.Rules.{rules}
+use Rattle.subregions.proofs.fill.fill_nodes.Given as goal
+
+abbrev pub invariant-loop-j : goal.invariant-loop-j
+invariant-loop-j l = (l.j ≤ l.span.nodes) × (length l.words ≡ length l.initial.words)
+    × ((P : Plan) (d : Bytes) → FillSources P d l.nodes l.node_regions l.sizes l.entries l.members l.entry_starts l.member_starts l.span (length l.initial.words)
+    → l.words ≡ filled_up_to P (data_of d) l.span l.initial.words l.j)
+
+abbrev pub decreases-loop-j : goal.decreases-loop-j
+decreases-loop-j l = l.span.nodes - l.j

@@ -1,0 +1,29 @@
+-- From the last node down (NeededNodes). Assumes nothing.
+use Prim.Native.Nat.{◌≤◌}
+use mathlib.Core.Path.{sym, ◌∙◌}
+use native.Mathlib.Omega.{arith}
+use Rattle.model.specs.Layout.{Plan}
+use borrow.Author.Rules.{rules}
+use Rattle.subregions.specs.Needed.{NodesRead}
+use Rattle.subregions.proofs.NeededNodes.{PassedDown, nothing_passed, passed_by, passed_with, all_passed}
+use Rattle.subregions.proofs.needed.needed_nodes.Goals as goal
+
+pub loop-j-init : goal.loop-j-init
+loop-j-init c = (omega arith, λ P R. nothing_passed)
+
+pub loop-j-preserved-then-has_bit : goal.loop-j-preserved-then-has_bit
+loop-j-preserved-then-has_bit c =
+    let l = c.loop-j in
+    let t = c.loop-j-test.true in (
+      omega (arith, l.invariant.0),
+      λ P R. passed_with t (l.invariant.1 P R)
+          (c.operand_bits-needed.ensures P (record { facts = R.facts; nodes_are = R.nodes_are; listed = omega (arith, R.listed, l.invariant.0) })),
+    )
+
+pub loop-j-preserved : goal.loop-j-preserved
+loop-j-preserved c =
+    let l = c.loop-j in
+    (omega (arith, l.invariant.0), λ P R. passed_by c.loop-j-test.true (l.invariant.1 P R) (sym c.has_bit.ensures ∙ c.if-has_bit.false))
+
+pub returns : goal.returns
+returns c = λ P R. all_passed c.loop-j-test.false (c.loop-j.invariant.1 P R)

@@ -1,0 +1,13 @@
+-- Word by word. Assumes nothing.
+use Prim.Native.Nat.{◌-◌}
+use mathlib.Core.Path.{refl}
+use Rattle.subregions.specs.Operators.{no_word}
+use Rattle.subregions.proofs.Piece.{Written, written_none, written_next, written_all}
+use borrow.Author.Rules.{rules}
+use Rattle.subregions.proofs.operators.clear_piece.Given as goal
+
+abbrev pub invariant-loop-k : goal.invariant-loop-k
+invariant-loop-k l = Written l.initial.words l.at no_word l.words l.k
+
+abbrev pub decreases-loop-k : goal.decreases-loop-k
+decreases-loop-k l = 8 - l.k

@@ -1,0 +1,16 @@
+-- Word by word. Assumes nothing.
+use Prim.Native.Nat.{◌-◌}
+use mathlib.Core.Path.{refl}
+use Rattle.bitsets.specs.Elements.{word_at}
+use Rattle.subregions.proofs.Piece.{Written, written_none, written_next, written_all}
+use borrow.Author.Rules.{rules}
+use Rattle.subregions.proofs.operators.write_piece.Goals as goal
+
+pub loop-w-init : goal.loop-w-init
+loop-w-init c = written_none _ _ _
+
+pub loop-w-preserved : goal.loop-w-preserved
+loop-w-preserved c = written_next _ _ _ _ _ _ c.loop-w.invariant c.loop-w-test.true refl
+
+pub returns : goal.returns
+returns c = written_all _ _ _ _ _ c.loop-w.invariant c.loop-w-test.false

@@ -1,0 +1,15 @@
+-- Piece by piece; the operand's pieces stand before those written. Assumes nothing.
+use Prim.Native.Nat.{◌-◌}
+use mathlib.Core.Path.{sym, ◌∙◌}
+use native.Mathlib.Omega.{arith}
+use Rattle.model.proofs.Tests.{less}
+use Rattle.subregions.specs.Pieces.{image_pieces}
+use Rattle.subregions.proofs.NodePieces.{PiecesWritten, pieces_none, pieces_all, image_next, mask_holds}
+use borrow.Author.Rules.{rules}
+use Rattle.subregions.proofs.pieces.fill_image.Given as goal
+
+abbrev pub invariant-loop-i : goal.invariant-loop-i
+invariant-loop-i l = PiecesWritten l.initial.words l.at (image_pieces l.initial.words l.entries l.start l.count l.a) l.pieces l.words l.i
+
+abbrev pub decreases-loop-i : goal.decreases-loop-i
+decreases-loop-i l = l.pieces - l.i
