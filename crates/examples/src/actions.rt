@@ -38,12 +38,7 @@ pub fn run_check<W: Write>(out: &mut W, plan: &[u8]) -> io::Result<()> {
 }
 
 // Prints the members of each node's pieces; there are at most 48 nodes.
-fn print_nodes<W: Write>(
-    out: &mut W,
-    data: &[u8],
-    words: &[u64],
-    nodes: usize,
-) -> io::Result<()> {
+fn print_nodes<W: Write>(out: &mut W, data: &[u8], words: &[u64], nodes: usize) -> io::Result<()> {
     let pieces = piece_count(data);
     let mut node = 0;
     while node < 48 {

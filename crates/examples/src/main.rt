@@ -61,12 +61,7 @@ fn run_file<R: Files + Print + Eprint>(rt: &R, path: &[u8]) -> io::Result<()> {
     }
     let mut plan = [0u8; 131072];
     let mut data = [0u8; 32768];
-    run_cases(
-        &mut io::writer(rt),
-        &text[..length],
-        &mut plan,
-        &mut data,
-    )
+    run_cases(&mut io::writer(rt), &text[..length], &mut plan, &mut data)
 }
 
 // Runs the file that an argument names, and answers whether there is such an argument.
