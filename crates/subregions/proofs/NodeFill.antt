@@ -7,7 +7,7 @@ use native.Mathlib.Nat.{mul-le-mul_right, suc-mul}
 use native.Mathlib.Numerals.{add-one}
 use native.Mathlib.Omega.{arith}
 use lib.ListN.{length, get_or}
-use Rattle.model.specs.Tests.{◌and◌, ◌or◌, ◌<?◌}
+use Rattle.model.specs.Tests.{◌and◌, ◌<?◌}
 use Rattle.model.specs.Bytes.{Bytes}
 use Rattle.model.specs.Partitions.{Partition, contiguous}
 use Rattle.model.specs.Layout.{Plan, map_count, node_count, source, target, node_a, node_b}
@@ -22,7 +22,6 @@ use Rattle.model.proofs.Fitting.{Fit, fit, entries_there}
 use Rattle.model.proofs.NodeSets.{SuppliedNode, ImageNode, PreimageNode, supplied_node, equal_node, image_node_lem, preimage_node, region_small}
 use Rattle.model.specs.declared.NodeKind.TheVariants.{Supplied, Equal, Image, Preimage}
 use Rattle.bitsets.specs.declared.words.SetOperator.{SetOperator}
-use Rattle.bitsets.specs.declared.words.SetOperator.TheVariants as set
 use Rattle.bitsets.specs.Elements.{between, combination, combined, supplied_elements}
 use Rattle.subregions.specs.declared.Span.{Span}
 use Rattle.subregions.specs.Pieces.{piece_words, pieces_from, supplied_pieces, equal_pieces, combined_pieces, image_pieces, preimage_pieces, SuppliedRoom, EqualRoom, CombinedRoom, ImageRoom, PreimageRoom}

@@ -13,13 +13,13 @@ use Rattle.model.specs.DataSets.{DataSet, NONE, pieces, size, entry_start, entry
 use Rattle.model.specs.Membership.{node_sets_by, node_sets}
 use Rattle.model.proofs.Tests.{both, pair, less, less!, most, most!, same, same!, split, fails, some_of, among, pick_true, pick-false, at_each, ◌also◌, same_truth}
 use Rattle.model.specs.AcceptedPlans.{Facts}
-use Rattle.model.proofs.Fitting.{Fit, fit}
+use Rattle.model.proofs.Fitting.{Fit}
 use Rattle.model.proofs.NodeSets.{TwoOperands, union_node, intersection_node, difference_node, kind_known}
 use Rattle.model.specs.declared.NodeKind.{NodeKind}
 use Rattle.model.specs.declared.NodeKind.TheVariants.{Supplied, Equal, Union, Intersection, Difference, Image, Preimage, Unknown}
 use Rattle.bitsets.specs.declared.words.SetOperator.{SetOperator}
 use Rattle.bitsets.specs.declared.words.SetOperator.TheVariants as set
-use Rattle.bitsets.specs.Elements.{combination, combined, entries_of, leading_to}
+use Rattle.bitsets.specs.Elements.{combination, entries_of, leading_to}
 use Rattle.primitives.proofs.Bits.{refute}
 use Rattle.subregions.proofs.NodePieces.{product}
 

@@ -1,17 +1,11 @@
 -- The loop has the members of each needed node passed in its words. Assumes nothing.
-use Prim.Native.Nat.{ℕ, ◌+◌, ◌-◌, ◌≤◌}
-use mathlib.Core.Path.{◌≡◌, refl, sym, ap, ◌∙◌}
-use mathlib.Core.Logic.{⊎_elim}
-use mathlib.Core.List.{List}
-use native.Mathlib.Omega.{arith}
+use Prim.Native.Nat.{◌-◌, ◌≤◌}
+use mathlib.Core.Path.{◌≡◌}
 use lib.ListN.{length}
 use Rattle.model.specs.Bytes.{Bytes}
 use Rattle.model.specs.Layout.{Plan}
 use Rattle.model.specs.DataSets.{data_of}
-use Rattle.model.proofs.Fitting.{fit}
-use Rattle.subregions.specs.Fill.{node_filled, filled_up_to, span_filled, FillSources}
-use Rattle.subregions.proofs.AllNodes.{few_nodes_spanned, node_sources, passed_length, node_next, node_skipped}
-use borrow.Author.Rules.{rules}
+use Rattle.subregions.specs.Fill.{filled_up_to, FillSources}
 use Rattle.subregions.proofs.fill.fill_nodes.Given as goal
 
 abbrev pub invariant-loop-j : goal.invariant-loop-j

@@ -1,16 +1,11 @@
 -- The loop has the size of each node passed in its place. Assumes nothing.
-use Prim.Native.Nat.{◌-◌, ◌≤◌}
 use mathlib.Core.Path.{◌≡◌, refl}
 use native.Mathlib.Omega.{arith}
-use lib.ListN.{length, length-set}
-use Rattle.model.specs.Bytes.{Bytes}
-use Rattle.model.specs.Layout.{Plan}
+use lib.ListN.{length-set}
 use Rattle.model.specs.Nodes.{node_region}
 use Rattle.model.specs.DataSets.{data_of, size}
-use Rattle.subregions.specs.Fill.{SizeSources, NodeSizes}
 use Rattle.primitives.proofs.Filling.{entry_next}
 use Rattle.subregions.proofs.AllNodes.{size_read}
-use borrow.Author.Rules.{rules}
 use Rattle.subregions.proofs.fill.node_sizes.Goals as goal
 
 pub loop-j-init : goal.loop-j-init

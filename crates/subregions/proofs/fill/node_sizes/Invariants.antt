@@ -1,16 +1,11 @@
 -- The loop has the size of each node passed in its place. Assumes nothing.
 use Prim.Native.Nat.{◌-◌, ◌≤◌}
-use mathlib.Core.Path.{◌≡◌, refl}
-use native.Mathlib.Omega.{arith}
-use lib.ListN.{length, length-set}
+use mathlib.Core.Path.{◌≡◌}
+use lib.ListN.{length}
 use Rattle.model.specs.Bytes.{Bytes}
 use Rattle.model.specs.Layout.{Plan}
-use Rattle.model.specs.Nodes.{node_region}
-use Rattle.model.specs.DataSets.{data_of, size}
+use Rattle.model.specs.DataSets.{data_of}
 use Rattle.subregions.specs.Fill.{SizeSources, NodeSizes}
-use Rattle.primitives.proofs.Filling.{entry_next}
-use Rattle.subregions.proofs.AllNodes.{size_read}
-use borrow.Author.Rules.{rules}
 use Rattle.subregions.proofs.fill.node_sizes.Given as goal
 
 abbrev pub invariant-loop-j : goal.invariant-loop-j

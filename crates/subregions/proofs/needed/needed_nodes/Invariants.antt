@@ -1,11 +1,8 @@
 -- From the last node down (NeededNodes). Assumes nothing.
 use Prim.Native.Nat.{◌≤◌}
-use mathlib.Core.Path.{sym, ◌∙◌}
-use native.Mathlib.Omega.{arith}
 use Rattle.model.specs.Layout.{Plan}
-use borrow.Author.Rules.{rules}
 use Rattle.subregions.specs.Needed.{NodesRead}
-use Rattle.subregions.proofs.NeededNodes.{PassedDown, nothing_passed, passed_by, passed_with, all_passed}
+use Rattle.subregions.proofs.NeededNodes.{PassedDown}
 use Rattle.subregions.proofs.needed.needed_nodes.Given as goal
 
 abbrev pub invariant-loop-j : goal.invariant-loop-j

@@ -1,67 +1,91 @@
 -- By kind (NeededNodes). Assumes nothing.
-use Prim.Native.Nat.{ℕ, ◌+◌, ◌≤◌, ◌<◌}
-use mathlib.Core.Path.{◌≡◌, sym, ◌∙◌, subst}
+use Prim.Native.Nat.{◌+◌, ◌≤◌, ◌<◌}
+use mathlib.Core.Path.{◌≡◌, sym, ◌∙◌}
 use mathlib.Core.List.{[]}
 use native.Mathlib.Omega.{arith}
-use borrow.Author.Rules.{rules}
-use Rattle.model.specs.Layout.{Plan, node_count, node_kind, node_a, node_b}
+use Rattle.model.specs.Layout.{Plan, node_count, node_kind}
 use Rattle.model.specs.Nodes.{node_kind_at}
 use Rattle.model.specs.DataSets.{data_of}
 use Rattle.model.specs.declared.NodeKind.{NodeKind}
-use Rattle.bitsets.specs.Elements.{OneBit}
-use Rattle.subregions.specs.Needed.{NodesRead}
+use lib.Bits.{bit_or}
+use Rattle.subregions.specs.Needed.{OperandBits, NodesRead}
 use Rattle.subregions.proofs.NodeOperators.{byte_of, byte_is, known_kind}
 use Rattle.subregions.proofs.NodeFill.{OperandsRead, operands_read}
 use Rattle.subregions.proofs.NeededNodes.{none_bits, left_bit, both_bits}
 use Rattle.subregions.proofs.needed.operand_bits.Goals as goal
-use Rattle.subregions.proofs.needed.operand_bits.Goals.{After-node_kind, Start}
+use Rattle.subregions.proofs.needed.operand_bits.Goals.{After-node_kind}
 
-abbrev start : After-node_kind → Start
-start c = x.before.before.before.before.before.before
+-- a plan that the node is read from
+abbrev Reads : After-node_kind → Plan → Type 0
+Reads c P = NodesRead P c.args.nodes.now (c.args.j + 1)
 
--- the node's record, of a plan that it is read from
-module _ (x : tie.After-node-kind) {P : Plan} (R : NodesRead P (start x).args.nodes.now ((start x).args.j + 1)) where
-  listed : (start x).args.j < node_count P
-  listed = omega (arith, R.listed)
-  kind_is : {kind : NodeKind} → x.node-kind.result ≡ kind → node_kind_at P (start x).args.j ≡ kind
-  kind_is told = sym (x.node-kind.ensures P R.nodes_are) ∙ told
-  byte : {kind : NodeKind} → x.node-kind.result ≡ kind → node_kind P (start x).args.j ≡ byte_of kind
-  byte told = byte_is P (data_of []) R.facts _ listed (kind_is told)
-  read : OperandsRead P (start x).args.j x.before.before.before.before.byte_at.result x.before.before.byte-at2.result
-  read = operands_read (sym R.nodes_are) x.before.before.before.before.byte_at.ensures.0 x.before.before.byte-at2.ensures.0
-  left : OneBit (node_a P (start x).args.j) x.before.before.before.one_bit.result
-  left = subst (λ (a : ℕ). OneBit a x.before.before.before.one_bit.result) read.a_is x.before.before.before.one_bit.ensures
-  right : OneBit (node_b P (start x).args.j) x.before.one-bit2.result
-  right = subst (λ (b : ℕ). OneBit b x.before.one-bit2.result) read.b_is x.before.one-bit2.ensures
-near : (c : After-node_kind) → (start x).args.j ≤ 64
-near c = omega (arith, (start x).requires)
+listed : (c : After-node_kind) {P : Plan} → Reads c P → c.args.j < node_count P
+listed c R = omega (arith, R.listed)
+
+-- the node's kind, as the plan has it, and its byte
+kind_is : (c : After-node_kind) {P : Plan} → Reads c P → {kind : NodeKind} → c.node_kind.result ≡ kind → node_kind_at P c.args.j ≡ kind
+kind_is c {P} R told = sym (c.node_kind.ensures P R.nodes_are) ∙ told
+
+byte : (c : After-node_kind) {P : Plan} → Reads c P → {kind : NodeKind} → c.node_kind.result ≡ kind → node_kind P c.args.j ≡ byte_of kind
+byte c {P} R told = byte_is P (data_of []) R.facts _ (listed c R) (kind_is c R told)
+
+-- its operands, as they are read
+read : (c : After-node_kind) {P : Plan} → Reads c P → OperandsRead P c.args.j c.byte_at.result c.byte_at-2.result
+read c R = operands_read (sym R.nodes_are) c.byte_at.ensures.0 c.byte_at-2.ensures.0
+
+-- the bit of its left operand, and the bits of both
+left : (c : After-node_kind) {P : Plan} → Reads c P → 4 < node_kind P c.args.j → OperandBits P c.args.j c.one_bit-a.result
+left c R many =
+    left_bit R.facts (listed c R) (omega (arith, c.requires)) (rw (read c R).a_is at c.one_bit-a.ensures) many
+
+both : (c : After-node_kind) {P : Plan} → Reads c P → 2 ≤ node_kind P c.args.j → node_kind P c.args.j ≤ 4
+    → OperandBits P c.args.j (bit_or c.one_bit-a.result c.one_bit-b.result)
+both c R low high =
+    both_bits R.facts (listed c R) (omega (arith, c.requires)) (rw (read c R).a_is at c.one_bit-a.ensures) (rw (read c R).b_is at c.one_bit-b.ensures) low high
 
 pub returns-in-Supplied : goal.returns-in-Supplied
-returns-in-Supplied c P R = none_bits R.facts (listed (goal.at.returns-in-Supplied c).After-node_kind R) (omega (arith, byte (goal.at.returns-in-Supplied c).After-node_kind R c.in-Supplied.is))
+returns-in-Supplied c P R =
+    let x = (goal.at.returns-in-Supplied c).After-node_kind in
+    let k = byte x R c.in-Supplied.is in
+    none_bits R.facts (listed x R) (omega arith)
 
 pub returns-in-Equal : goal.returns-in-Equal
-returns-in-Equal c P R = none_bits R.facts (listed (goal.at.returns-in-Equal c).After-node_kind R) (omega (arith, byte (goal.at.returns-in-Equal c).After-node_kind R c.in-Equal.is))
+returns-in-Equal c P R =
+    let x = (goal.at.returns-in-Equal c).After-node_kind in
+    let k = byte x R c.in-Equal.is in
+    none_bits R.facts (listed x R) (omega arith)
 
 pub returns-in-Union : goal.returns-in-Union
 returns-in-Union c P R =
-    let k = byte (goal.at.returns-in-Union c).After-node_kind R c.in-Union.is in
-    both_bits R.facts (listed (goal.at.returns-in-Union c).After-node_kind R) (near (goal.at.returns-in-Union c).After-node_kind) (left (goal.at.returns-in-Union c).After-node_kind R) (right (goal.at.returns-in-Union c).After-node_kind R) (omega arith) (omega arith)
+    let x = (goal.at.returns-in-Union c).After-node_kind in
+    let k = byte x R c.in-Union.is in
+    both x R (omega arith) (omega arith)
 
 pub returns-in-Intersection : goal.returns-in-Intersection
 returns-in-Intersection c P R =
-    let k = byte (goal.at.returns-in-Intersection c).After-node_kind R c.in-Intersection.is in
-    both_bits R.facts (listed (goal.at.returns-in-Intersection c).After-node_kind R) (near (goal.at.returns-in-Intersection c).After-node_kind) (left (goal.at.returns-in-Intersection c).After-node_kind R) (right (goal.at.returns-in-Intersection c).After-node_kind R) (omega arith) (omega arith)
+    let x = (goal.at.returns-in-Intersection c).After-node_kind in
+    let k = byte x R c.in-Intersection.is in
+    both x R (omega arith) (omega arith)
 
 pub returns-in-Difference : goal.returns-in-Difference
 returns-in-Difference c P R =
-    let k = byte (goal.at.returns-in-Difference c).After-node_kind R c.in-Difference.is in
-    both_bits R.facts (listed (goal.at.returns-in-Difference c).After-node_kind R) (near (goal.at.returns-in-Difference c).After-node_kind) (left (goal.at.returns-in-Difference c).After-node_kind R) (right (goal.at.returns-in-Difference c).After-node_kind R) (omega arith) (omega arith)
+    let x = (goal.at.returns-in-Difference c).After-node_kind in
+    let k = byte x R c.in-Difference.is in
+    both x R (omega arith) (omega arith)
 
 pub returns-in-Image : goal.returns-in-Image
-returns-in-Image c P R = let k = byte (goal.at.returns-in-Image c).After-node_kind R c.in-Image.is in left_bit R.facts (listed (goal.at.returns-in-Image c).After-node_kind R) (near (goal.at.returns-in-Image c).After-node_kind) (left (goal.at.returns-in-Image c).After-node_kind R) (omega arith)
+returns-in-Image c P R =
+    let x = (goal.at.returns-in-Image c).After-node_kind in
+    let k = byte x R c.in-Image.is in
+    left x R (omega arith)
 
 pub returns-in-Preimage : goal.returns-in-Preimage
-returns-in-Preimage c P R = let k = byte (goal.at.returns-in-Preimage c).After-node_kind R c.in-Preimage.is in left_bit R.facts (listed (goal.at.returns-in-Preimage c).After-node_kind R) (near (goal.at.returns-in-Preimage c).After-node_kind) (left (goal.at.returns-in-Preimage c).After-node_kind R) (omega arith)
+returns-in-Preimage c P R =
+    let x = (goal.at.returns-in-Preimage c).After-node_kind in
+    let k = byte x R c.in-Preimage.is in
+    left x R (omega arith)
 
 pub returns-in-Unknown : goal.returns-in-Unknown
-returns-in-Unknown c P R = absurd (known_kind P (data_of []) R.facts _ (listed (goal.at.returns-in-Unknown c).After-node_kind R) (kind_is (goal.at.returns-in-Unknown c).After-node_kind R c.in-Unknown.is))
+returns-in-Unknown c P R =
+    let x = (goal.at.returns-in-Unknown c).After-node_kind in
+    absurd (known_kind P (data_of []) R.facts _ (listed x R) (kind_is x R c.in-Unknown.is))

@@ -1,20 +1,17 @@
 -- The loop takes the lowest member off the rest and adds its entry. Assumes nothing.
-use Prim.Native.Nat.{ℕ, ◌-◌, ◌≤◌}
+use Prim.Native.Nat.{ℕ, ◌-◌}
 use mathlib.Core.Bool.{Bool}
 use mathlib.Core.Path.{refl, sym, ap, ◌∙◌}
 use native.Mathlib.Nat.{le_refl}
-use lib.Bits.{and_le_l, and_le_r}
+use lib.Bits.{and_le_l}
 use native.Mathlib.Omega.{arith}
-use Rattle.model.specs.Tests.{Is, ◌or◌, ◌==◌}
+use Rattle.model.specs.Tests.{◌or◌, ◌==◌}
 use Rattle.model.proofs.Tests.{both}
-use Rattle.model.specs.Words.{bit}
-use Rattle.subregions.specs.Operators.{SetOf}
 use Rattle.subregions.proofs.Maps.{gathered, gathered_none, gathered_next, gathered_all, entry_cut}
 use Rattle.subregions.proofs.Piece.{set_same, set_added}
 use Rattle.bitsets.proofs.Zeros.{Lowest, lowest}
-use borrow.Author.Rules.{rules}
 use Rattle.subregions.proofs.operators.add_entries.Goals as goal
-use Rattle.subregions.proofs.operators.add_entries.Goals.{After-lowest, After-target-e}
+use Rattle.subregions.proofs.operators.add_entries.Goals.{After-lowest}
 
 -- the member that the loop takes
 found : (c : After-lowest) → Lowest c.loop-rest.rest c.lowest.result
@@ -24,9 +21,6 @@ found c =
 
 pub loop-rest-init : goal.loop-rest-init
 loop-rest-init c = (le_refl _, λ b t. t, λ elements h. set_same _ _ _ h (λ e l. gathered_none _ _ _ _ e))
-
-pub overflow_mul-lowest : goal.overflow_mul-lowest
-overflow_mul-lowest c = omega (arith, (found c).inside)
 
 pub overflow_add-start : goal.overflow_add-start
 overflow_add-start c =
@@ -39,14 +33,9 @@ target-e-requires c =
     let n = found c in
     c.requires.inside _ n.inside (c.loop-rest.invariant.1 _ n.member)
 
-pub loop-rest-smaller : goal.loop-rest-smaller
-loop-rest-smaller c =
-    let l = c.loop-rest in
-    omega (arith, and_le_r l.rest (l.rest - 1), c.loop-rest-test.true)
-
 pub loop-rest-preserved : goal.loop-rest-preserved
 loop-rest-preserved c =
-    let n = found (goal.at.loop-rest-preserved c).After-target-e in
+    let n = found (goal.at.loop-rest-preserved c).After-lowest in
     let l = c.loop-rest in
     let a = c.args in (
       omega (arith, and_le_l l.rest (l.rest - 1), l.invariant.0),

@@ -1,18 +1,10 @@
 -- The loop takes the lowest member off the rest and adds its entry. Assumes nothing.
-use Prim.Native.Nat.{ℕ, ◌-◌, ◌≤◌}
+use Prim.Native.Nat.{ℕ, ◌≤◌}
 use mathlib.Core.Bool.{Bool}
-use mathlib.Core.Path.{refl, sym, ap, ◌∙◌}
-use native.Mathlib.Nat.{le_refl}
-use lib.Bits.{and_le_l, and_le_r}
-use native.Mathlib.Omega.{arith}
-use Rattle.model.specs.Tests.{Is, ◌or◌, ◌==◌}
-use Rattle.model.proofs.Tests.{both}
+use Rattle.model.specs.Tests.{Is}
 use Rattle.model.specs.Words.{bit}
 use Rattle.subregions.specs.Operators.{SetOf}
-use Rattle.subregions.proofs.Maps.{gathered, gathered_none, gathered_next, gathered_all, entry_cut}
-use Rattle.subregions.proofs.Piece.{set_same, set_added}
-use Rattle.bitsets.proofs.Zeros.{Lowest, lowest}
-use borrow.Author.Rules.{rules}
+use Rattle.subregions.proofs.Maps.{gathered}
 use Rattle.subregions.proofs.operators.add_entries.Given as goal
 
 abbrev pub invariant-loop-rest : goal.invariant-loop-rest

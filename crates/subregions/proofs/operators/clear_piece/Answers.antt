@@ -1,9 +1,6 @@
 -- Word by word. Assumes nothing.
-use Prim.Native.Nat.{◌-◌}
 use mathlib.Core.Path.{refl}
-use Rattle.subregions.specs.Operators.{no_word}
-use Rattle.subregions.proofs.Piece.{Written, written_none, written_next, written_all}
-use borrow.Author.Rules.{rules}
+use Rattle.subregions.proofs.Piece.{written_none, written_next, written_all}
 use Rattle.subregions.proofs.operators.clear_piece.Goals as goal
 
 pub loop-k-init : goal.loop-k-init

@@ -1,9 +1,5 @@
 -- Word by word. Assumes nothing.
-use Prim.Native.Nat.{◌-◌}
-use Rattle.model.specs.Words.{holds}
-use Rattle.bitsets.specs.Elements.{masked, combined}
-use Rattle.subregions.proofs.Piece.{Made, made_none, made_next, made_all, combined-word}
-use borrow.Author.Rules.{rules}
+use Rattle.subregions.proofs.Piece.{made_none, made_next, made_all, combined-word}
 use Rattle.subregions.proofs.operators.combined_piece.Goals as goal
 
 pub loop-w-init : goal.loop-w-init

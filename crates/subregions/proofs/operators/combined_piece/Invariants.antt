@@ -2,8 +2,7 @@
 use Prim.Native.Nat.{◌-◌}
 use Rattle.model.specs.Words.{holds}
 use Rattle.bitsets.specs.Elements.{masked, combined}
-use Rattle.subregions.proofs.Piece.{Made, made_none, made_next, made_all, combined-word}
-use borrow.Author.Rules.{rules}
+use Rattle.subregions.proofs.Piece.{Made}
 use Rattle.subregions.proofs.operators.combined_piece.Given as goal
 
 abbrev pub invariant-loop-w : goal.invariant-loop-w

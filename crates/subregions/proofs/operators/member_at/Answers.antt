@@ -4,7 +4,6 @@ use mathlib.Core.Path.{ap, ◌∙◌}
 use native.Mathlib.Omega.{arith}
 use Rattle.model.specs.Words.{digit, holds}
 use Rattle.bitsets.specs.Elements.{through}
-use borrow.Author.Rules.{rules}
 use Rattle.subregions.proofs.operators.member_at.Goals as goal
 
 pub bit_of-requires : goal.bit_of-requires

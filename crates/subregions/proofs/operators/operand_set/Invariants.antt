@@ -1,13 +1,8 @@
 -- Word by word; the spare word stays 0. Assumes nothing.
 use Prim.Native.Nat.{ℕ, ◌+◌, ◌-◌, ◌≤◌, ◌<◌}
-use mathlib.Core.Path.{◌≡◌, refl, ◌∙◌}
-use native.Mathlib.Omega.{arith}
+use mathlib.Core.Path.{◌≡◌}
 use lib.Bits.{bit_and}
-use lib.ListN.{length, get_or, length-set}
-use lib.Seq.{get_or-set_other}
-use Rattle.primitives.proofs.Filling.{entry_next}
-use Rattle.subregions.proofs.Piece.{operand_made}
-use borrow.Author.Rules.{rules}
+use lib.ListN.{length, get_or}
 use Rattle.subregions.proofs.operators.operand_set.Given as goal
 
 abbrev pub invariant-loop-w : goal.invariant-loop-w

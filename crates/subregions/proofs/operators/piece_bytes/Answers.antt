@@ -1,5 +1,4 @@
 -- The same bytes, read either way. Assumes nothing.
-use borrow.Author.Rules.{rules}
 use Rattle.subregions.proofs.operators.piece_bytes.Goals as goal
 
 pub inside_bytes-requires : goal.inside_bytes-requires

@@ -1,10 +1,7 @@
 -- Word by word, as far as there is a place. Assumes nothing.
-use Prim.Native.Nat.{◌-◌}
 use native.Mathlib.Omega.{arith}
-use Rattle.bitsets.specs.Elements.{through}
 use Rattle.bitsets.proofs.Elements.{empty_word}
-use Rattle.subregions.proofs.Piece.{Made, made_none, made_next, made_to}
-use borrow.Author.Rules.{rules}
+use Rattle.subregions.proofs.Piece.{made_none, made_next, made_to}
 use Rattle.subregions.proofs.operators.preimage_piece.Goals as goal
 
 pub loop-w-init : goal.loop-w-init

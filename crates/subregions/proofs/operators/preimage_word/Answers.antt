@@ -1,10 +1,7 @@
 -- The loop makes the word from its highest place down: that is how a number of bits is defined. Assumes nothing.
-use Prim.Native.Nat.{◌+◌, ◌*◌, ◌≤◌}
-use mathlib.Core.Path.{◌≡◌, ◌∙◌}
+use mathlib.Core.Path.{◌∙◌}
 use native.Mathlib.Omega.{arith}
-use Rattle.bitsets.specs.Elements.{through}
-use Rattle.subregions.proofs.Maps.{upper, upper_none, upper_two, upper_all}
-use borrow.Author.Rules.{rules}
+use Rattle.subregions.proofs.Maps.{upper_none, upper_two, upper_all}
 use Rattle.subregions.proofs.operators.preimage_word.Goals as goal
 
 pub loop-pairs-init : goal.loop-pairs-init

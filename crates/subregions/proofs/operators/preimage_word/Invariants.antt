@@ -1,10 +1,8 @@
 -- The loop makes the word from its highest place down: that is how a number of bits is defined. Assumes nothing.
 use Prim.Native.Nat.{◌+◌, ◌*◌, ◌≤◌}
-use mathlib.Core.Path.{◌≡◌, ◌∙◌}
-use native.Mathlib.Omega.{arith}
+use mathlib.Core.Path.{◌≡◌}
 use Rattle.bitsets.specs.Elements.{through}
-use Rattle.subregions.proofs.Maps.{upper, upper_none, upper_two, upper_all}
-use borrow.Author.Rules.{rules}
+use Rattle.subregions.proofs.Maps.{upper}
 use Rattle.subregions.proofs.operators.preimage_word.Given as goal
 
 abbrev pub invariant-loop-pairs : goal.invariant-loop-pairs

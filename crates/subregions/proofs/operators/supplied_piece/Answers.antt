@@ -1,11 +1,9 @@
 -- Word by word: eight bytes, each reversed, are the elements in order. Assumes nothing.
-use Prim.Native.Nat.{◌+◌, ◌-◌}
+use Prim.Native.Nat.{◌+◌}
 use lib.ListN.{length}
 use borrow.Author.Tests.{leb-true}
 use native.Mathlib.Omega.{arith}
-use Rattle.bitsets.specs.Elements.{masked, supplied_elements}
-use Rattle.subregions.proofs.Piece.{Made, made_none, made_next, made_all, supplied_word}
-use borrow.Author.Rules.{rules}
+use Rattle.subregions.proofs.Piece.{made_none, made_next, made_all, supplied_word}
 use Rattle.subregions.proofs.operators.supplied_piece.Goals as goal
 
 pub loop-w-init : goal.loop-w-init

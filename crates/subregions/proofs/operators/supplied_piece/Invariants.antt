@@ -1,11 +1,7 @@
 -- Word by word: eight bytes, each reversed, are the elements in order. Assumes nothing.
-use Prim.Native.Nat.{◌+◌, ◌-◌}
-use lib.ListN.{length}
-use borrow.Author.Tests.{leb-true}
-use native.Mathlib.Omega.{arith}
+use Prim.Native.Nat.{◌-◌}
 use Rattle.bitsets.specs.Elements.{masked, supplied_elements}
-use Rattle.subregions.proofs.Piece.{Made, made_none, made_next, made_all, supplied_word}
-use borrow.Author.Rules.{rules}
+use Rattle.subregions.proofs.Piece.{Made}
 use Rattle.subregions.proofs.operators.supplied_piece.Given as goal
 
 abbrev pub invariant-loop-w : goal.invariant-loop-w

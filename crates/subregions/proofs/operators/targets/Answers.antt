@@ -1,12 +1,11 @@
 -- Entry by entry; the places behind the last one keep 512. Assumes nothing.
-use Prim.Native.Nat.{ℕ, ◌+◌, ◌-◌, ◌*◌, ◌≤◌, ◌<◌, min}
+use Prim.Native.Nat.{ℕ, ◌+◌, ◌*◌, min}
 use mathlib.Core.Path.{◌≡◌, ◌∙◌}
 use native.Mathlib.Omega.{arith}
-use lib.ListN.{length, get_or, length-set, length-replicate, get_or-replicate}
+use lib.ListN.{length-set, length-replicate, get_or-replicate}
 use lib.Seq.{get_or-set_other}
 use Rattle.model.specs.Bytes.{u16}
 use Rattle.primitives.proofs.Filling.{entry_next}
-use borrow.Author.Rules.{rules}
 use Rattle.subregions.proofs.operators.targets.Goals as goal
 
 pub loop-k-init : goal.loop-k-init

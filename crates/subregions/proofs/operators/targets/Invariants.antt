@@ -1,12 +1,8 @@
 -- Entry by entry; the places behind the last one keep 512. Assumes nothing.
 use Prim.Native.Nat.{ℕ, ◌+◌, ◌-◌, ◌*◌, ◌≤◌, ◌<◌, min}
-use mathlib.Core.Path.{◌≡◌, ◌∙◌}
-use native.Mathlib.Omega.{arith}
-use lib.ListN.{length, get_or, length-set, length-replicate, get_or-replicate}
-use lib.Seq.{get_or-set_other}
+use mathlib.Core.Path.{◌≡◌}
+use lib.ListN.{length, get_or}
 use Rattle.model.specs.Bytes.{u16}
-use Rattle.primitives.proofs.Filling.{entry_next}
-use borrow.Author.Rules.{rules}
 use Rattle.subregions.proofs.operators.targets.Given as goal
 
 abbrev pub invariant-loop-k : goal.invariant-loop-k

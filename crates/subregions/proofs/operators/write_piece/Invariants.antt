@@ -1,9 +1,7 @@
 -- Word by word. Assumes nothing.
 use Prim.Native.Nat.{◌-◌}
-use mathlib.Core.Path.{refl}
 use Rattle.bitsets.specs.Elements.{word_at}
-use Rattle.subregions.proofs.Piece.{Written, written_none, written_next, written_all}
-use borrow.Author.Rules.{rules}
+use Rattle.subregions.proofs.Piece.{Written}
 use Rattle.subregions.proofs.operators.write_piece.Given as goal
 
 abbrev pub invariant-loop-w : goal.invariant-loop-w

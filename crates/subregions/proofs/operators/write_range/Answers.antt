@@ -1,10 +1,7 @@
 -- Word by word in the cleared piece, from the first that has an element; the others stay 0. Assumes nothing.
-use Prim.Native.Nat.{◌-◌}
 use native.Mathlib.Omega.{arith}
-use Rattle.bitsets.specs.Elements.{between}
 use Rattle.bitsets.proofs.Elements.{between_none, empty_word}
-use Rattle.subregions.proofs.Piece.{Begun, begun_from, begun_next, begun_to}
-use borrow.Author.Rules.{rules}
+use Rattle.subregions.proofs.Piece.{begun_from, begun_next, begun_to}
 use Rattle.subregions.proofs.operators.write_range.Goals as goal
 
 pub loop-w-init : goal.loop-w-init

@@ -1,7 +1,6 @@
 -- The product is small. Assumes nothing.
 use native.Mathlib.Omega.{arith}
 use Rattle.subregions.proofs.NodePieces.{product}
-use borrow.Author.Rules.{rules}
 use Rattle.subregions.proofs.pieces.equal_start.Goals as goal
 
 pub overflow_mul-result : goal.overflow_mul-result

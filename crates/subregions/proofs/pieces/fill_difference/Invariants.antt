@@ -2,8 +2,7 @@
 use Prim.Native.Nat.{◌-◌}
 use Rattle.bitsets.specs.declared.words.SetOperator.TheVariants.{Difference}
 use Rattle.subregions.specs.Pieces.{combined_pieces}
-use Rattle.subregions.proofs.NodePieces.{PiecesWritten, pieces_none, pieces_all, combined_next}
-use borrow.Author.Rules.{rules}
+use Rattle.subregions.proofs.NodePieces.{PiecesWritten}
 use Rattle.subregions.proofs.pieces.fill_difference.Given as goal
 
 abbrev pub invariant-loop-i : goal.invariant-loop-i

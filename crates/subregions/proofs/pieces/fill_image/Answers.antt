@@ -1,11 +1,8 @@
 -- Piece by piece; the operand's pieces stand before those written. Assumes nothing.
-use Prim.Native.Nat.{◌-◌}
 use mathlib.Core.Path.{sym, ◌∙◌}
 use native.Mathlib.Omega.{arith}
 use Rattle.model.proofs.Tests.{less}
-use Rattle.subregions.specs.Pieces.{image_pieces}
-use Rattle.subregions.proofs.NodePieces.{PiecesWritten, pieces_none, pieces_all, image_next, mask_holds}
-use borrow.Author.Rules.{rules}
+use Rattle.subregions.proofs.NodePieces.{pieces_none, pieces_all, image_next, mask_holds}
 use Rattle.subregions.proofs.pieces.fill_image.Goals as goal
 
 pub loop-i-init : goal.loop-i-init

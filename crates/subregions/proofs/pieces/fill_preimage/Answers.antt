@@ -1,9 +1,6 @@
 -- Piece by piece; the operand's pieces stand before those written. Assumes nothing.
-use Prim.Native.Nat.{◌-◌}
 use native.Mathlib.Omega.{arith}
-use Rattle.subregions.specs.Pieces.{preimage_pieces}
-use Rattle.subregions.proofs.NodePieces.{PiecesWritten, pieces_none, pieces_all, preimage_next, preimage_piece_room}
-use borrow.Author.Rules.{rules}
+use Rattle.subregions.proofs.NodePieces.{pieces_none, pieces_all, preimage_next, preimage_piece_room}
 use Rattle.subregions.proofs.pieces.fill_preimage.Goals as goal
 
 pub targets-table-requires : goal.targets-table-requires

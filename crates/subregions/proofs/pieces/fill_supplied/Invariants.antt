@@ -1,11 +1,7 @@
 -- Piece by piece. Assumes nothing.
-use Rattle.bitsets.specs.Elements.{supplied_elements}
-use mathlib.Core.Path.{refl}
-use Prim.Native.Nat.{◌+◌, ◌-◌, ◌*◌, ◌/◌, ◌≤◌}
-use native.Mathlib.Omega.{arith}
+use Prim.Native.Nat.{◌-◌}
 use Rattle.subregions.specs.Pieces.{pieces_from, supplied_pieces}
-use Rattle.subregions.proofs.NodePieces.{PiecesWritten, pieces_none, piece_next, pieces_all, masked_is, product}
-use borrow.Author.Rules.{rules}
+use Rattle.subregions.proofs.NodePieces.{PiecesWritten}
 use Rattle.subregions.proofs.pieces.fill_supplied.Given as goal
 
 abbrev pub invariant-loop-i : goal.invariant-loop-i

@@ -1,9 +1,6 @@
 -- Piece by piece; the operands' pieces stand before those written. Assumes nothing.
-use Prim.Native.Nat.{◌-◌}
 use Rattle.bitsets.specs.declared.words.SetOperator.TheVariants.{Union}
-use Rattle.subregions.specs.Pieces.{combined_pieces}
-use Rattle.subregions.proofs.NodePieces.{PiecesWritten, pieces_none, pieces_all, combined_next}
-use borrow.Author.Rules.{rules}
+use Rattle.subregions.proofs.NodePieces.{pieces_none, pieces_all, combined_next}
 use Rattle.subregions.proofs.pieces.fill_union.Goals as goal
 
 pub loop-i-init : goal.loop-i-init
