@@ -2,9 +2,11 @@
 // and piece, the members.
 #![tactic(auto)]
 
-ghost use Rattle.std.specs.Prelude.{◌≡◌, length};
+ghost use Rattle.std.specs.Prelude.{◌≡◌, length, OnOk};
+ghost use Rattle.std.specs.Io.KnownBytes.{Appends};
 ghost use Rattle.model.specs.Evaluation.{MOST_WORDS};
 ghost use Rattle.report.specs.Buffers.{plan_bytes, data_bytes};
+ghost use Rattle.report.specs.Printed.{symbols_text, Printed};
 
 use dataset::cells::piece_count;
 use evaluate::evaluate;
@@ -21,7 +23,9 @@ fn print_symbols<W: Write>(
     data: &[u8],
     words: &[u64],
     symbols: usize,
-) -> io::Result<()> {
+) -> io::Result<()>
+    ensures { OnOk result (Appends (W.contents out.old) (W.contents out.new) (symbols_text plan.now «data».now words.now symbols)) }
+{
     let pieces = piece_count(data);
     let mut symbol = 0;
     while symbol < symbols {
@@ -53,7 +57,9 @@ fn output_words() -> [u64; 6144]
 }
 
 // Evaluates, and prints the report.
-fn print_report<W: Write>(out: &mut W, plan: &[u8], data: &[u8]) -> io::Result<()> {
+fn print_report<W: Write>(out: &mut W, plan: &[u8], data: &[u8]) -> io::Result<()>
+    ensures { OnOk result (Printed plan.now «data».now (W.contents out.old) (W.contents out.new)) }
+{
     let mut words = output_words();
     let answer = evaluate(plan, data, &mut words);
     let report = answers::report_answer(answer);
