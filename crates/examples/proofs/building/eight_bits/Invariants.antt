@@ -1,6 +1,5 @@
 -- The value stays below 256. Assumes nothing.
 use Prim.Native.Nat.{◌-◌, ◌≤◌, ◌<◌}
-use borrow.Author.Rules.{rules}
 use Rattle.examples.proofs.building.eight_bits.Given as goal
 
 abbrev pub invariant-loop-bit : goal.invariant-loop-bit

@@ -1,7 +1,6 @@
 -- What is lent keeps its length. Assumes nothing.
 use mathlib.Core.Path.{◌≡◌}
 use lib.ListN.{length}
-use borrow.Author.Rules.{rules}
 use Rattle.examples.proofs.cases.append_times.Given as goal
 
 abbrev pub invariant-loop-left : goal.invariant-loop-left

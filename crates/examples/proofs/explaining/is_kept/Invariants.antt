@@ -1,7 +1,6 @@
 -- One place after another. Assumes nothing.
 use Prim.Native.Nat.{◌-◌, ◌≤◌}
 use lib.ListN.{length}
-use borrow.Author.Rules.{rules}
 use Rattle.examples.proofs.explaining.is_kept.Given as goal
 
 abbrev pub invariant-loop-at : goal.invariant-loop-at

@@ -1,7 +1,6 @@
 -- The value stays within 64 bits. Assumes nothing.
 use Prim.Native.Nat.{◌-◌, ◌≤◌, ◌<◌}
 use lib.ListN.{length}
-use borrow.Author.Rules.{rules}
 use Rattle.examples.proofs.tokens.number.Given as goal
 
 abbrev pub invariant-loop-at : goal.invariant-loop-at

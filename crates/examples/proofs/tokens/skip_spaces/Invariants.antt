@@ -1,7 +1,6 @@
 -- The place stays inside. Assumes nothing.
 use Prim.Native.Nat.{◌-◌, ◌≤◌}
 use lib.ListN.{length}
-use borrow.Author.Rules.{rules}
 use Rattle.examples.proofs.tokens.skip_spaces.Given as goal
 
 abbrev pub invariant-loop-at : goal.invariant-loop-at
