@@ -4,8 +4,9 @@ ghost use Rattle.std.specs.Prelude.{◌≤◌, length};
 use crate::actions::{first_bytes, print_name, print_unknown, run_charge, run_check, run_evaluate};
 use crate::building::{Place, Unit, extend};
 use crate::explaining::{read_request, run_explain};
-use crate::tokens::{next_number, next_word};
-use check::same;
+use crate::tokens::{next_number, next_word, same};
+use std::io;
+use std::io::Write;
 
 // What the first word of a line asks for.
 #[derive(Clone, Copy)]
@@ -220,51 +221,56 @@ fn rest(line: &[u8], from: usize) -> &[u8]
 }
 
 // Does what a line asks for that builds nothing.
-fn run_action(
+fn run_action<W: Write>(
+    out: &mut W,
     progress: Progress,
     keyword: Keyword,
     line: &[u8],
     from: usize,
     plan: &[u8],
     data: &[u8],
-)
+) -> io::Result<()>
     requires { from ≤ length line.now }
 {
     match keyword {
-        Keyword::Case => print_name(rest(line, from)),
-        Keyword::Check => run_check(first_bytes(plan, progress.plan.end)),
+        Keyword::Case => print_name(out, rest(line, from)),
+        Keyword::Check => run_check(out, first_bytes(plan, progress.plan.end)),
         Keyword::Evaluate => run_evaluate(
+            out,
             first_bytes(plan, progress.plan.end),
             first_bytes(data, progress.data.end),
             words_lent(line, from),
         ),
         Keyword::Explain => run_explain(
+            out,
             first_bytes(plan, progress.plan.end),
             first_bytes(data, progress.data.end),
             read_request(line, from),
         ),
         Keyword::Charge => run_charge(
+            out,
             first_bytes(plan, progress.plan.end),
             first_bytes(data, progress.data.end),
             line,
             from,
         ),
-        _ => print_unknown(line),
+        _ => print_unknown(out, line),
     }
 }
 
 // Does what a line says whose first word is known.
-fn run_keyword(
+fn run_keyword<W: Write>(
+    out: &mut W,
     progress: Progress,
     keyword: Keyword,
     line: &[u8],
     from: usize,
     plan: &mut [u8],
     data: &mut [u8],
-) -> Progress
+) -> io::Result<Progress>
     requires { from ≤ length line.now }
 {
-    match keyword {
+    let next = match keyword {
         Keyword::Item => append_rest(progress, false, line, 0, plan, data),
         Keyword::Times => append_times(progress, line, from, plan, data),
         Keyword::Plan => append_rest(begin(progress, false), false, line, from, plan, data),
@@ -282,21 +288,29 @@ fn run_keyword(
             data,
         ),
         _ => {
-            run_action(progress, keyword, line, from, plan, data);
+            run_action(out, progress, keyword, line, from, plan, data)?;
             progress
         }
-    }
+    };
+    Ok(next)
 }
 
 // Does what a line says, up to its comment.
-pub fn run_line(progress: Progress, line: &[u8], plan: &mut [u8], data: &mut [u8]) -> Progress {
+pub fn run_line<W: Write>(
+    out: &mut W,
+    progress: Progress,
+    line: &[u8],
+    plan: &mut [u8],
+    data: &mut [u8],
+) -> io::Result<Progress> {
     let word = next_word(line, 0);
     let start = word.from;
     let end = word.to;
     if start == end {
-        return progress;
+        return Ok(progress);
     }
     run_keyword(
+        out,
         progress,
         keyword_of(&line[start..end]),
         line,

@@ -6,6 +6,8 @@ use answers::report_written;
 use listing::{print_explanation, print_pair};
 use model::Question;
 use provenance::explain;
+use std::io;
+use std::io::Write;
 
 // What a line asks, and how many places it lends for the nodes and for the elements of the chain.
 #[derive(Clone, Copy)]
@@ -36,18 +38,24 @@ pub fn read_request(line: &[u8], from: usize) -> Request
 }
 
 // Prints the first pairs of a chain.
-fn print_pairs(nodes: &[u16], elements: &[u16], pairs: usize) {
+fn print_pairs<W: Write>(
+    out: &mut W,
+    nodes: &[u16],
+    elements: &[u16],
+    pairs: usize,
+) -> io::Result<()> {
     let mut at = 0;
     while at < pairs {
         if nodes.len() <= at {
-            return;
+            return Ok(());
         }
         if elements.len() <= at {
-            return;
+            return Ok(());
         }
-        print_pair(nodes[at], elements[at]);
+        print_pair(out, nodes[at], elements[at])?;
         at += 1;
     }
+    Ok(())
 }
 
 // Whether every place, from one on, holds what it held before.
@@ -63,21 +71,22 @@ fn is_kept(places: &[u16], from: usize) -> bool {
 }
 
 // Explains a membership, and prints the answer, the pairs, and whether a place behind them is changed.
-fn explain_into(
+fn explain_into<W: Write>(
+    out: &mut W,
     plan: &[u8],
     data: &[u8],
     request: Request,
     nodes: &mut [u16],
     elements: &mut [u16],
-) {
+) -> io::Result<()> {
     let question = request.question;
     let for_nodes = request.nodes;
     let for_elements = request.elements;
     if nodes.len() < for_nodes {
-        return;
+        return Ok(());
     }
     if elements.len() < for_elements {
-        return;
+        return Ok(());
     }
     let answer = explain(
         plan,
@@ -88,17 +97,23 @@ fn explain_into(
         &mut nodes[0..for_nodes],
         &mut elements[0..for_elements],
     );
-    print_explanation(answer);
+    print_explanation(out, answer)?;
     let pairs = report_written(answer).length;
-    print_pairs(nodes, elements, pairs);
+    print_pairs(out, nodes, elements, pairs)?;
     if !(is_kept(nodes, pairs) & is_kept(elements, pairs)) {
-        io::write_all(1, b"changed\n");
+        out.write_all(b"changed\n")?;
     }
+    Ok(())
 }
 
 // Explains a membership with places lent, at most 48 for each slice, all of which hold 65535 before.
-pub fn run_explain(plan: &[u8], data: &[u8], request: Request) {
+pub fn run_explain<W: Write>(
+    out: &mut W,
+    plan: &[u8],
+    data: &[u8],
+    request: Request,
+) -> io::Result<()> {
     let mut nodes = [65535u16; 48];
     let mut elements = [65535u16; 48];
-    explain_into(plan, data, request, &mut nodes, &mut elements);
+    explain_into(out, plan, data, request, &mut nodes, &mut elements)
 }

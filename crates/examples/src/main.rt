@@ -27,49 +27,60 @@ mod tokens;
 
 use cases::{nothing_built, run_line};
 use files::read_file;
+use std::io;
+use std::io::Write;
+use std::rt::{Env, Files};
 use tokens::find;
 
 // Runs the cases of a text.
-fn run_cases(text: &[u8], plan: &mut [u8], data: &mut [u8]) {
+fn run_cases<W: Write>(
+    out: &mut W,
+    text: &[u8],
+    plan: &mut [u8],
+    data: &mut [u8],
+) -> io::Result<()> {
     let mut progress = nothing_built();
     let mut at = 0;
     while at < text.len() {
         let end = find(text, at, b'\n');
         let line = &text[at..end];
         let code = find(line, 0, b'#');
-        progress = run_line(progress, &line[0..code], plan, data);
+        progress = run_line(out, progress, &line[0..code], plan, data)?;
         at = end + 1;
     }
+    Ok(())
 }
 
 // Runs the cases of a file, which has fewer than 65,536 bytes.
-fn run_file(path: &[u8]) {
-    let mut text = io::large_buffer();
-    let file = read_file(path, &mut text);
+fn run_file<R: Files + Print + Eprint>(rt: &R, path: &[u8]) -> io::Result<()> {
+    let mut text = [0u8; 65536];
+    let file = read_file(rt, path, &mut text);
     let length = file.length;
     if length == 65536 {
-        io::write_all(2, b"a file of cases is too long\n");
-        return;
+        return eprintln!(rt; "a file of cases is too long");
     }
     let mut plan = [0u8; 131072];
     let mut data = [0u8; 32768];
-    run_cases(&text[..length], &mut plan, &mut data);
+    run_cases(&mut io::writer(rt), &text[..length], &mut plan, &mut data)
 }
 
 // Runs the file that an argument names, and answers whether there is such an argument.
-fn run_argument(number: usize) -> bool {
-    let mut path = io::buffer();
-    let length = os::arg(number, &mut path);
-    if os::errno() != 0 {
-        return false;
-    }
-    run_file(&path[..length]);
-    true
+fn run_argument<R: Env + Files + Print + Eprint>(rt: &R, number: usize) -> io::Result<bool> {
+    let mut path = [0u8; 4096];
+    let Ok(length) = rt.arg(number, &mut path) else {
+        return Ok(false);
+    };
+    run_file(rt, &path[..length])?;
+    Ok(true)
 }
 
-fn main() {
+fn main(rt: HostRuntime) -> io::Result<()> {
     let mut number = 1;
-    while number < 64 && run_argument(number) {
+    while number < 64 {
+        if !run_argument(&rt, number)? {
+            return Ok(());
+        }
         number += 1;
     }
+    Ok(())
 }

@@ -1,5 +1,5 @@
 // Words and numbers of a line.
-ghost use Rattle.std.specs.Prelude.{◌≤◌, ◌<◌, length};
+ghost use Rattle.std.specs.Prelude.{◌≡◌, ◌≤◌, ◌<◌, ◌↔◌, length, IsTrue};
 ghost use Rattle.examples.specs.Spans.{Inside};
 
 // A part of a line, from a place up to, not including, another.
@@ -14,6 +14,13 @@ pub struct Span {
 pub struct Numeral {
     pub value: usize,
     pub to: usize,
+}
+
+// Whether two words have the same bytes.
+pub fn same(a: &[u8], b: &[u8]) -> bool
+    ensures { IsTrue result ↔ (a.now ≡ b.now) }
+{
+    a == b
 }
 
 // The first place, from one on, that holds a byte; the length if none does.
@@ -60,7 +67,7 @@ pub fn next_word(line: &[u8], from: usize) -> Span
 
 // A word as a number: 65535 for none, and the greatest of 64 bits for any that is not below it.
 pub fn number(word: &[u8]) -> usize {
-    if check::same(word, b"none") {
+    if same(word, b"none") {
         return 65535;
     }
     let mut value = 0;

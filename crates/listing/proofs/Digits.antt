@@ -1,16 +1,16 @@
--- The digits of a number: at most as many as are enough, and those that `io::decimal` gives. How long the texts are at most.
+-- The digits of a number: at most as many as are enough, and those that `number::decimal` gives. How long the texts are at most.
 -- Assumes nothing.
 use Prim.Native.Nat.{ℕ, zero, suc, ◌+◌, ◌-◌, ◌*◌, ◌/◌, ◌%◌, ◌^◌, ◌≤◌, ◌<◌}
 use mathlib.Core.Path.{◌≡◌, sym, ap, ◌∙◌}
 use mathlib.Core.Logic.{inl, inr}
 use mathlib.Core.List.{List, [], ◌∷◌, ◌++◌}
-use native.Mathlib.Nat.{pow-suc, pow-le-pow_right, mod-lt, mod-eq_of_lt}
+use native.Mathlib.Nat.{pow-suc, pow-le-pow_right, mod-eq_of_lt}
 use native.Mathlib.Decide.{dec_lt}
 use native.Mathlib.Omega.{arith}
 use borrow.Author.Tests.{lt-ltb, le-ltb}
 use lib.Dec.{lit<, lit≤}
 use lib.ListN.{length, length-append}
-use Rattle.io.specs.Digits.{hex_digit_ascii, last_digits, IsDigitCount}
+use Rattle.listing.specs.Digits.{last_digits, IsDigitCount}
 use Rattle.model.specs.Tests.{◌<?◌}
 use Rattle.model.specs.Words.{holds}
 use Rattle.model.proofs.Tests.{split, fails, pick_true, pick-false}
@@ -55,16 +55,13 @@ unfolding members_text
 members_short words at zero = omega arith
 members_short words at (suc n) = rw length-append (omega (arith, members_short words at n, member_short words at n))
 
-glyph_digit : (d : ℕ) → d < 10 → hex_digit_ascii d ≡ 48 + d
-glyph_digit d h = rw (lt-ltb d 10 h)
-
 -- the fewest digits are the digits
-digits_are : (r k n : ℕ) → r ≤ k → IsDigitCount 10 1 n r → last_digits 10 r n ≡ digits_within k n
+digits_are : (r k n : ℕ) → r ≤ k → IsDigitCount n r → last_digits r n ≡ digits_within k n
 digits_are zero k n few f = absurd (omega arith)
 digits_are (suc r) zero n few f = absurd (omega arith)
 digits_are (suc zero) (suc k) n few f =
     let small : n < 10 = omega arith in
-    ap (λ (d : ℕ). hex_digit_ascii d ∷ []) (mod-eq_of_lt small) ∙ ap (λ (d : ℕ). d ∷ []) (glyph_digit n small) ∙ sym (one_digit k n small)
+    ap (λ (d : ℕ). (48 + d) ∷ []) (mod-eq_of_lt small) ∙ sym (one_digit k n small)
 digits_are (suc (suc r)) (suc k) n few f =
     let e : suc (suc r) - 1 ≡ suc r = omega arith in
     let e' : suc r - 1 ≡ r = omega arith in
@@ -72,10 +69,10 @@ digits_are (suc (suc r)) (suc k) n few f =
     let tenth : 10 ^ r ≤ n / 10 = omega (arith, pow-suc 10 r) in
     let below : n / 10 < 10 ^ suc r = omega (arith, f.1, pow-suc 10 (suc r)) in
     let rest = digits_are (suc r) k (n / 10) (omega arith) (omega arith, below, (λ h. rw e' tenth)) in
-    rw (rest, glyph_digit (n % 10) (mod-lt n (omega arith)), more_digits k n (omega (arith, pow-suc 10 r)))
+    rw (rest, more_digits k n (omega (arith, pow-suc 10 r)))
 
 -- 20 are enough for 64 bits
-pub few_digits : (r n : ℕ) → n < 2 ^ 64 → IsDigitCount 10 1 n r → r ≤ 20
+pub few_digits : (r n : ℕ) → n < 2 ^ 64 → IsDigitCount n r → r ≤ 20
 few_digits r n h f =
     elim (dec_lt 20 r) [
       | yes more ↦
@@ -86,6 +83,6 @@ few_digits r n h f =
       | no few ↦ omega arith
     ]
 
-pub decimal_is : (r n : ℕ) → n < 2 ^ 64 → IsDigitCount 10 1 n r → last_digits 10 r n ≡ decimal n
+pub decimal_is : (r n : ℕ) → n < 2 ^ 64 → IsDigitCount n r → last_digits r n ≡ decimal n
 unfolding decimal
 decimal_is r n h f = digits_are r 20 n (few_digits r n h f) f

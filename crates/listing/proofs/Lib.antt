@@ -1,2 +1,4 @@
 pub mod Appended
 pub mod Digits
+pub mod Powers
+pub mod Written

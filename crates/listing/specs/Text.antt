@@ -1,5 +1,5 @@
 -- The text of a report, as ASCII: the line of an answer, and the lines of the pieces.
-use Rattle.std.specs.Prelude.{ℕ, zero, suc, ◌+◌, ◌/◌, ◌%◌, ◌≤◌, ◌≡◌, List, [], ◌∷◌, ◌++◌, length, take}
+use Rattle.std.specs.Prelude.{ℕ, zero, suc, ◌+◌, ◌*◌, ◌/◌, ◌%◌, ◌≤◌, ◌≡◌, List, [], ◌∷◌, ◌++◌, length, take}
 use Rattle.model.specs.Tests.{◌==◌, ◌<?◌, pick}
 use Rattle.model.specs.Words.{holds}
 use Rattle.model.specs.declared.Report.{Report}
@@ -47,6 +47,15 @@ members_text words at (suc n) = members_text words at n ++ member_text words at 
 -- "Then symbol, piece, colon, members": the line of a piece whose words stand from `at` on
 unfoldable pub piece_text : ℕ → ℕ → List ℕ → ℕ → Text
 piece_text number piece words at = decimal number ++ spaced piece ++ (58 ∷ []) ++ members_text words at 512 ++ (10 ∷ [])
+
+-- the lines of the first n of a node's pieces, each with a number in front; a piece has 8 words
+unfoldable pub pieces_text : ℕ → ℕ → ℕ → List ℕ → ℕ → Text
+pieces_text number node pieces words zero = []
+pieces_text number node pieces words (suc n) = pieces_text number node pieces words n ++ piece_text number n words ((node * pieces + n) * 8)
+
+-- the lines of all of them
+abbrev pub node_text : ℕ → ℕ → ℕ → List ℕ → Text
+node_text number node pieces words = pieces_text number node pieces words pieces
 
 -- "explained", then the chain's length; a refusal as above
 unfoldable pub explained_text : ℕ → Text

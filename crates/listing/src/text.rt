@@ -30,7 +30,7 @@ pub fn append_decimal(line: &mut [u8], at: usize, number: usize) -> usize
     ensures { Appended line.old line.new at (decimal number) result × (result ≤ at + 20) }
 {
     let mut digits = [0u8; 20];
-    let count = io::decimal(number as u64, &mut digits);
+    let count = crate::number::decimal(number as u64, &mut digits);
     append_bytes(line, at, &digits[..count])
 }
 
