@@ -1,4 +1,4 @@
-// The entry points for C and Rust: an answer comes as one number.
+// The entry points for C and Rust, which mavisglen_c exports: an answer comes as one number.
 #![tactic(auto)]
 
 ghost use Rattle.std.specs.Prelude.{◌≡◌};
@@ -10,8 +10,7 @@ ghost use Rattle.mavisglen.specs.Exported.{ExportedCheck, ExportedEvaluation, Ex
 use model::{Answer, Charge, Refusal, Written};
 
 // Checks a plan.
-#[unsafe(no_mangle)]
-pub extern "C" fn mavisglen_check(plan: &[u8]) -> u64
+pub fn mavisglen_check(plan: &[u8]) -> u64
     ensures { ExportedCheck plan.now result }
 {
     let answer = plan::check(plan);
@@ -19,8 +18,7 @@ pub extern "C" fn mavisglen_check(plan: &[u8]) -> u64
 }
 
 // Evaluates a plan over a data set into the lent words.
-#[unsafe(no_mangle)]
-pub extern "C" fn mavisglen_evaluate(plan: &[u8], data: &[u8], words: &mut [u64]) -> u64
+pub fn mavisglen_evaluate(plan: &[u8], data: &[u8], words: &mut [u64]) -> u64
     ensures { ExportedEvaluation plan.now «data».now words.old words.new result }
 {
     let answer = evaluate::evaluate(plan, data, words);
@@ -28,8 +26,7 @@ pub extern "C" fn mavisglen_evaluate(plan: &[u8], data: &[u8], words: &mut [u64]
 }
 
 // Explains why a piece of a node holds an element, by a chain of pairs in two lent slices.
-#[unsafe(no_mangle)]
-pub extern "C" fn mavisglen_explain(
+pub fn mavisglen_explain(
     plan: &[u8],
     data: &[u8],
     node: usize,
@@ -45,8 +42,7 @@ pub extern "C" fn mavisglen_explain(
 }
 
 // Charges for the elements of the accessed node's pieces that the owned node's lack.
-#[unsafe(no_mangle)]
-pub extern "C" fn mavisglen_charge(
+pub fn mavisglen_charge(
     plan: &[u8],
     data: &[u8],
     accessed: usize,
