@@ -28,13 +28,15 @@ use Rattle.model.proofs.Outcomes.{then_pass, passes_then, require_pass, required
 use Rattle.model.proofs.Accepted.{plan_accepted}
 use Rattle.model.proofs.Fitting.{Fit, fit}
 use Rattle.model.proofs.NodeSets.{region_small, node_within}
-use Rattle.model.proofs.Steps.{SubsetHolds, DisjointHolds, CompleteHolds, subset_of, disjoint_of, complete_of, steps_true}
+use Rattle.model.proofs.StepTruth.{SubsetHolds, DisjointHolds, CompleteHolds, subset_of, disjoint_of, complete_of}
+use Rattle.model.proofs.Steps.{steps_true}
 use Rattle.model.proofs.FinalWords.{filled_holds}
 use Rattle.model.proofs.Bounds.{bounded}
 use Rattle.model.proofs.StatementKinds.{opens_is, accesses_is}
 use Rattle.model.proofs.LoopsAgree.{in_loop, resolves_loop}
 use Rattle.model.proofs.VariablesAgree.{FormedBefore, access_computed}
-use Rattle.model.proofs.ParallelAgree.{access_resolves, reduces_through_pointer_lem}
+use Rattle.model.proofs.LoopAccesses.{access_resolves}
+use Rattle.model.proofs.ParallelAgree.{reduces_through_pointer_lem}
 use Rattle.model.proofs.SymbolsAgree.{has_symbol_lem}
 use Rattle.model.proofs.SubregionsAgree.{subregion, subregion_computed, subregion_is}
 

@@ -1,6 +1,6 @@
 -- The claim that no iteration disturbs another can fail: for each of its parts a plan with a loop of which it is false over a data set that
 -- fits. Each is refused for that loop and for nothing else. By computation. Assumes nothing.
-use Prim.Native.Nat.{ℕ, suc, ◌<◌}
+use Prim.Native.Nat.{ℕ, suc}
 use mathlib.Core.Path.{◌≡◌, refl}
 use mathlib.Core.Bool.{Bool}
 use mathlib.Core.Logic.{inl, inr}
@@ -28,7 +28,7 @@ use Rattle.model.proofs.FiledPlans.{plan, nodes_a}
 use Rattle.model.proofs.StatementKinds.{accesses_is, field_is}
 use Rattle.model.proofs.VariablesAgree.{FormedBefore, access_computed}
 use Rattle.model.proofs.StatementsAgree.{formed_resolves_a, formed_resolves_b}
-use Rattle.model.proofs.ParallelAgree.{access_region, loop_access}
+use Rattle.model.proofs.LoopAccesses.{access_region, loop_access}
 use Rattle.model.proofs.Demand2Loops.{statements_pass, all_formed}
 use Rattle.model.proofs.Undisturbed.{map_uncentered}
 

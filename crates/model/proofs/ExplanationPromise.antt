@@ -11,7 +11,6 @@ use lib.ListN.{length, get_or, drop}
 use Rattle.model.specs.Tests.{Is, ◌and◌, non, ◌≤?◌}
 use Rattle.model.specs.Answers.{refusalReport, writtenReport}
 use Rattle.model.specs.Bytes.{Bytes}
-use Rattle.model.specs.Outcomes.{◌then◌}
 use Rattle.model.specs.Layout.{Plan, plan_of, node_count}
 use Rattle.model.specs.Nodes.{node_region}
 use Rattle.model.specs.DataSets.{DataSet, data_of, pieces, size}
@@ -38,7 +37,8 @@ use Rattle.model.proofs.Words.{store_length, store_inside, store_behind}
 use Rattle.model.proofs.Fitting.{Fit, fit}
 use Rattle.model.proofs.DataAgrees.{data_refuses}
 use Rattle.model.proofs.SetsAgree.{SameSets, sets_agree, members_follow}
-use Rattle.model.proofs.Provenance.{pair_exists, exists_inside, exists_few, MembersOf, grounds_at, grounds_same, chain_only, chain_few, chain_grounds}
+use Rattle.model.proofs.Successors.{pair_exists, exists_inside, exists_few}
+use Rattle.model.proofs.Provenance.{MembersOf, grounds_at, grounds_same, chain_only, chain_few, chain_grounds}
 use Rattle.model.proofs.AcceptedInputs.{AcceptedInputs, inputs_accepted, inputs_exactly}
 use Rattle.model.proofs.GivenWhen.{plan_refuses}
 use Rattle.model.proofs.FirstMet.{plan_rows_clear, data_rows_clear, after_inputs, clear_before}

@@ -1,8 +1,8 @@
 -- Nothing accepted before is lost: the rule by region alone, as it was before fields counted, is stronger than the rule by region and
 -- field, in both readings. Of the verdict only refusal 8 moves. Assumes nothing.
 use Prim.Native.Nat.{ℕ, ◌<◌}
-use mathlib.Core.Path.{◌≡◌, refl, sym, ap, subst, ◌∙◌}
-use mathlib.Core.Logic.{◌⊎◌, inl, inr, ◌↔◌}
+use mathlib.Core.Path.{◌≡◌, refl, sym, ap, ◌∙◌}
+use mathlib.Core.Logic.{◌⊎◌, inl, inr}
 use mathlib.Core.Bool.{Bool}
 use native.Mathlib.Omega.{arith}
 use Rattle.model.specs.Tests.{Is, ◌and◌, ◌or◌, non, ◌==◌, every}
@@ -13,7 +13,7 @@ use Rattle.model.specs.Statements.{opens, operand_region}
 use Rattle.model.specs.Parallel.{reads, writes, reduces, uncentered, access_of_loop, same_target, conflicts, parallelizable, loop_check}
 use Rattle.model.specs.Needs.{assignment_count_check}
 use Rattle.model.specs.Verdict.{regions_check, maps_check, partitions_check, statements_check, nodes_check, assignments_check, steps_check, needs_check, records_check, plan_check, accepted, verdict}
-use Rattle.model.specs.LoopRelations.{InLoop, VariableRegion, Centered, AccessThrough, AccessTarget}
+use Rattle.model.specs.LoopRelations.{VariableRegion, AccessThrough}
 use Rattle.model.specs.PlainPlan.{ParallelizableLoop, WellFormed, Licensed, Concluded}
 use Rattle.model.specs.Promises.{Accepts}
 use Rattle.model.specs.declared.Refusal.TheVariants.{NotParallelizable}
@@ -23,75 +23,21 @@ use Rattle.model.specs.declared.Answer.{Answer}
 use Rattle.model.specs.declared.Answer.TheVariants.{Accepted, Refused}
 use Rattle.model.proofs.Tests.{both, pair, lacks, refuted, implied, implies, every_at, every_of}
 use Rattle.model.proofs.Outcomes.{require_pass, required, require_refuse, scan_pass, passes_scan, scan_refuse, conclude_accepted}
-use Rattle.model.proofs.VariablesAgree.{access_computed}
+use Rattle.model.proofs.TargetRule.{ParallelizableBy, finer, by_target}
 use Rattle.model.proofs.Demand2.{demand_2}
 
 module _ (P : Plan) where
-  -- the three conditions of a parallelizable loop, over any relation between accesses of one target
-  pub record ParallelizableBy (Same : ℕ → ℕ → Type 0) (f : ℕ) : Type 0 where
-    pub writes_centered :
-        (s d : ℕ) → s < statement_count P → InLoop P f s → statement_kind P s ≡ 5 → AccessThrough P s d → Centered P d
-    pub reductions_alone :
-        (s t d e : ℕ) → s < statement_count P → t < statement_count P → InLoop P f s → InLoop P f t → Same s t →
-        AccessThrough P s d → AccessThrough P t e → statement_kind P s ≡ 6 → (Centered P d → ⊥) →
-        (statement_kind P t ≡ 6) × (Centered P e → ⊥) × (statement_c P t ≡ statement_c P s)
-    pub reads_undisturbed :
-        (s t d : ℕ) → s < statement_count P → t < statement_count P → InLoop P f s → InLoop P f t → Same s t →
-        AccessThrough P s d → (statement_kind P s ≡ 1) ⊎ (statement_kind P s ≡ 4) → (Centered P d → ⊥) →
-        (statement_kind P t ≡ 5) ⊎ (statement_kind P t ≡ 6) → ⊥
-
-  -- a finer relation asks less
-  pub finer :
-      {Coarse Fine : ℕ → ℕ → Type 0} → ((s t : ℕ) → Fine s t → Coarse s t) → {f : ℕ} → ParallelizableBy Coarse f → ParallelizableBy Fine f
-  finer c L =
-      record {
-        writes_centered = L.writes_centered;
-        reductions_alone = λ s t d e ls lt i j w. L.reductions_alone s t d e ls lt i j (c s t w);
-        reads_undisturbed = λ s t d ls lt i j w. L.reads_undisturbed s t d ls lt i j (c s t w);
-      }
-
-  -- access s is of region r; two accesses of one region; two accesses of one region and field
+  -- access s is of region r; two accesses of one region
   abbrev pub AccessRegion : ℕ → ℕ → Type 0
   AccessRegion s r = (d : ℕ) × AccessThrough P s d × VariableRegion P d r
 
   abbrev pub SameRegion : ℕ → ℕ → Type 0
   SameRegion s t = (r : ℕ) × AccessRegion s r × AccessRegion t r
 
-  abbrev pub SameTarget : ℕ → ℕ → Type 0
-  SameTarget s t = (r g : ℕ) × AccessTarget P s r g × AccessTarget P t r g
-
-  -- an access goes through one variable
-  uncentered_as : {s c d : ℕ} → AccessThrough P s c → AccessThrough P s d → (Centered P c → ⊥) → Centered P d → ⊥
-  uncentered_as a b = subst (λ v. Centered P v → ⊥) (sym (access_computed P a).2 ∙ (access_computed P b).2)
-
-  -- the rule over accesses of one region and field is the rule
-  pub by_target : (f : ℕ) → ParallelizableBy SameTarget f ↔ ParallelizableLoop P f
-  by_target f = (to, from)
-    where
-      to : ParallelizableBy SameTarget f → ParallelizableLoop P f
-      to L =
-          record {
-            writes_centered = L.writes_centered;
-            reductions_alone =
-                λ s t r g ls lt i j x y k n. L.reductions_alone s t _ _ ls lt i j (r, g, x, y) x.through y.through k n;
-            reads_undisturbed = λ s t r g ls lt i j x y k n. L.reads_undisturbed s t _ ls lt i j (r, g, x, y) x.through k n;
-          }
-
-      from : ParallelizableLoop P f → ParallelizableBy SameTarget f
-      from L =
-          record {
-            writes_centered = L.writes_centered;
-            reductions_alone = λ s t d e ls lt i j w a b k n.
-                let u = L.reductions_alone s t _ _ ls lt i j w.2 w.3 k (uncentered_as a w.2.through n) in
-                (u.0, uncentered_as w.3.through b u.1, u.2);
-            reads_undisturbed = λ s t d ls lt i j w a k n.
-                L.reads_undisturbed s t _ _ ls lt i j w.2 w.3 k (uncentered_as a w.2.through n);
-          }
-
   -- a loop that is parallelizable by region is parallelizable
-  pub by_region : {f : ℕ} → ParallelizableBy SameRegion f → ParallelizableLoop P f
+  pub by_region : {f : ℕ} → ParallelizableBy P SameRegion f → ParallelizableLoop P f
   by_region {f} L =
-      (by_target f).0 (finer (λ s t w. (w.0, (_, w.2.through, w.2.region), (_, w.3.through, w.3.region))) L)
+      (by_target P f).0 (finer P (λ s t w. (w.0, (_, w.2.through, w.2.region), (_, w.3.through, w.3.region))) L)
 
 -- the former clause of demand 2: its loops are parallelizable by region
 abbrev pub ParallelizableByRegion : Bytes → Type 0

@@ -9,7 +9,9 @@ pub mod StatementKinds
 pub mod LoopsAgree
 pub mod VariablesAgree
 pub mod StatementsAgree
+pub mod LoopAccesses
 pub mod ParallelAgree
+pub mod TwoTouches
 pub mod Undisturbed
 pub mod SymbolsAgree
 pub mod NeedsAgree
@@ -23,9 +25,12 @@ pub mod Partitions
 pub mod Accepted
 pub mod Fitting
 pub mod NodeSets
+pub mod PrivateNodes
 pub mod PrivateParts
 pub mod PrivateExamples
 pub mod ChargedExample
+pub mod StepTruth
+pub mod Lemma21
 pub mod Steps
 pub mod Bounds
 pub mod SubregionsAgree
@@ -33,6 +38,7 @@ pub mod Words
 pub mod Counting
 pub mod SetsAgree
 pub mod FinalWords
+pub mod Successors
 pub mod Provenance
 pub mod Transfers
 pub mod Demand3
@@ -47,8 +53,10 @@ pub mod ExplanationPromise
 pub mod ChargePromise
 pub mod Demand2
 pub mod AllToFirst
+pub mod KeptConditions
 pub mod ExactRule
 pub mod Disturbances
+pub mod TargetRule
 pub mod FormerRule
 pub mod LoopExamples
 pub mod Packed

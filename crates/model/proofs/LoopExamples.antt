@@ -12,9 +12,10 @@ use Rattle.model.proofs.FiledPlans.{plan, nodes_a, assignments_a, steps_a}
 use Rattle.model.proofs.FiledTable.{Input, checking, answer, gives, accepts, refuses}
 use Rattle.model.proofs.LoopsAgree.{in_loop}
 use Rattle.model.proofs.VariablesAgree.{FormedBefore}
-use Rattle.model.proofs.ParallelAgree.{access_through, access_region, access_uncentered}
+use Rattle.model.proofs.LoopAccesses.{access_through, access_region, access_uncentered}
 use Rattle.model.proofs.Accepted.{verdict_accepted}
-use Rattle.model.proofs.FormerRule.{ParallelizableBy, SameRegion, former_verdict}
+use Rattle.model.proofs.TargetRule.{ParallelizableBy}
+use Rattle.model.proofs.FormerRule.{SameRegion, former_verdict}
 
 -- 001, figure 1, second loop: for c in Cells: Cells[c].vel += g(Cells[c].acc, Cells[h(c)].acc); vel is field 0, acc is field 1
 -- FOR Cells; READ variable 0, acc; CALL h; READ variable 1, acc; REDUCE variable 0, vel, add; nodes, assignments and steps as in plan A

@@ -15,7 +15,8 @@ use Rattle.model.specs.PlainPlan.{ConcludesSubset, ConcludesDisjoint, ConcludesC
 use Rattle.model.proofs.Tests.{both, pair, implied, implies, less, less!, some_of, among}
 use Rattle.model.proofs.StatementKinds.{opens_is}
 use Rattle.model.proofs.VariablesAgree.{FormedBefore, access_computed}
-use Rattle.model.proofs.ParallelAgree.{access_resolves, access_through, reduces_through_pointer_lem}
+use Rattle.model.proofs.LoopAccesses.{access_resolves, access_through}
+use Rattle.model.proofs.ParallelAgree.{reduces_through_pointer_lem}
 use Rattle.model.proofs.SymbolsAgree.{symbol_computed, symbols_before, NodesListed, bound_is}
 
 -- the two readings of what a step concludes agree

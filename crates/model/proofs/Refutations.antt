@@ -24,7 +24,8 @@ use Rattle.model.proofs.Tests.{falsum}
 use Rattle.model.proofs.LoopsAgree.{in_loop}
 use Rattle.model.proofs.VariablesAgree.{FormedBefore}
 use Rattle.model.proofs.StatementsAgree.{formed_resolves_a, formed_resolves_b}
-use Rattle.model.proofs.ParallelAgree.{access_through, reduces_through_pointer_lem}
+use Rattle.model.proofs.LoopAccesses.{access_through}
+use Rattle.model.proofs.ParallelAgree.{reduces_through_pointer_lem}
 use Rattle.model.proofs.SubregionsAgree.{subregion, subregion_computed, subregion_is}
 use Rattle.model.proofs.EvaluatedExample.{example_plan, example_data, example_words, example_facts}
 

@@ -6,89 +6,25 @@ use mathlib.Core.Logic.{inl, inr}
 use mathlib.Core.Bool.{Bool, true, false}
 use native.Mathlib.Omega.{arith}
 use Rattle.model.specs.Tests.{Is}
-use Rattle.model.specs.Partitions.{Partition, image, preimage, Contained, PairwiseDisjoint, Covering}
+use Rattle.model.specs.Partitions.{Partition, image, preimage, Contained}
 use Rattle.model.specs.Layout.{Plan, node_count, step_count, source, target, node_a, node_b, step_lemma, step_x, step_y, step_p, step_q}
 use Rattle.model.specs.Nodes.{node_region}
-use Rattle.model.specs.Lemmas.{lemmas, lemma_row, in_use, is_subset, is_disjoint, is_complete, concludes_subset, concludes_disjoint, concludes_complete, operand_of, licences, licence, step_formed, step_licensed}
-use Rattle.model.specs.DataSets.{DataSet, pieces, size, maps_to}
-use Rattle.model.specs.Membership.{equal, member}
+use Rattle.model.specs.Lemmas.{lemmas, lemma_row, in_use, operand_of, licences, licence, step_formed, step_licensed}
+use Rattle.model.specs.DataSets.{DataSet, size, maps_to}
+use Rattle.model.specs.Membership.{equal}
 use Rattle.model.specs.AcceptedPlans.{Facts}
-use Rattle.model.specs.declared.Conclusion.{Conclusion}
-use Rattle.model.specs.declared.Conclusion.TheVariants.{Subset, Disjoint, Complete}
 use Rattle.model.proofs.Tests.{falsum, both, either, same, less, most, which, ◌also◌, at_each}
 use Rattle.model.proofs.Recursion.{by_earlier}
 use Rattle.model.proofs.Partitions.{subset_refl, subset_trans, union_contains_left, union_contains_right, union_least, intersection_subset_left, intersection_subset_right, intersection_greatest, difference_subset, image_monotone, preimage_monotone, image_of_preimage, subset_disjoint, intersection_disjoint_left, intersection_disjoint_right, difference_disjoint, preimage_disjoint, superset_complete, preimage_complete, contiguous_disjoint, contiguous_complete}
 use Rattle.model.proofs.Fitting.{Fit}
-use Rattle.model.proofs.PrivateParts.{private_pieces_disjoint}
 use Rattle.model.proofs.NodeSets.{OneOperand, supplied_node, equal_node, union_node, intersection_node, difference_node, image_node_lem, preimage_node}
-
-is_subset_lem : (c : Conclusion) → Is (is_subset c) → c ≡ Subset
-unfolding is_subset
-is_subset_lem Subset h = refl
-is_subset_lem Disjoint h = falsum h
-is_subset_lem Complete h = falsum h
-
-is_disjoint_lem : (c : Conclusion) → Is (is_disjoint c) → c ≡ Disjoint
-unfolding is_disjoint
-is_disjoint_lem Subset h = falsum h
-is_disjoint_lem Disjoint h = refl
-is_disjoint_lem Complete h = falsum h
-
-is_complete_lem : (c : Conclusion) → Is (is_complete c) → c ≡ Complete
-unfolding is_complete
-is_complete_lem Subset h = falsum h
-is_complete_lem Disjoint h = falsum h
-is_complete_lem Complete h = refl
+use Rattle.model.proofs.StepTruth.{SubsetHolds, StepTrue, subset_of, disjoint_of, complete_of, Sound}
+use Rattle.model.proofs.Lemma21.{lemma_21}
 
 in_use_lem : (used : Bool) (bound v : ℕ) → Is (in_use used bound v) → Is used → v < bound
 unfolding in_use
 in_use_lem true bound v h used = less h
 in_use_lem false bound v h used = falsum used
-
--- what a conclusion says of the nodes' sets
-module _ (P : Plan) (D : DataSet) where
-  pub record SubsetHolds (x y : ℕ) : Type 0 where
-    pub y_listed : y < node_count P
-    pub one_region : node_region P x ≡ node_region P y
-    pub subset : Contained (member P D x) (member P D y)
-
-  abbrev pub DisjointHolds : ℕ → Type 0
-  DisjointHolds x = PairwiseDisjoint (member P D x)
-
-  abbrev pub CompleteHolds : ℕ → Type 0
-  CompleteHolds x = Covering (pieces D) (size D (node_region P x)) (member P D x)
-
-  abbrev pub Holds : Conclusion → ℕ → ℕ → Type 0
-  Holds Subset x y = SubsetHolds x y
-  Holds Disjoint x y = DisjointHolds x
-  Holds Complete x y = CompleteHolds x
-
-  -- what step t concludes is true
-  abbrev pub StepTrue : ℕ → Type 0
-  StepTrue t = Holds (lemma_row (step_lemma P t)).conclusion (step_x P t) (step_y P t)
-
-  pub subset_of : (t x y : ℕ) → Is (concludes_subset P t x y) → StepTrue t → SubsetHolds x y
-  unfolding concludes_subset
-  subset_of t x y h holds = rw (is_subset_lem _ (both h).0, same (both (both h).1).0, same (both (both h).1).1) at holds
-
-  pub disjoint_of : (t x : ℕ) → Is (concludes_disjoint P t x) → StepTrue t → DisjointHolds x
-  unfolding concludes_disjoint
-  disjoint_of t x h holds = rw (is_disjoint_lem _ (both h).0, same (both h).1) at holds
-
-  pub complete_of : (t x : ℕ) → Is (concludes_complete P t x) → StepTrue t → CompleteHolds x
-  unfolding concludes_complete
-  complete_of t x h holds = rw (is_complete_lem _ (both h).0, same (both h).1) at holds
-
-  -- what a step by lemma l may lean on: the numbers that the lemma's row uses are nodes and true steps
-  record Given (l x y p q : ℕ) : Type 0 where
-    x_listed : Is (lemma_row l).x → x < node_count P
-    y_listed : Is (lemma_row l).y → y < node_count P
-    p_true : Is (lemma_row l).p → StepTrue p
-    q_true : Is (lemma_row l).q → StepTrue q
-
-  -- lemma l is sound: what it concludes by its licence is true
-  abbrev Sound : ℕ → Type 0
-  Sound l = (x y p q : ℕ) → Given l x y p q → Is (licence P l x y p q) → Holds (lemma_row l).conclusion x y
 
 module _ (P : Plan) (D : DataSet) (F : Facts P) (fit : Fit P D) where
   lemma_1 : Sound P D 1
@@ -272,17 +208,12 @@ module _ (P : Plan) (D : DataSet) (F : Facts P) (fit : Fit P D) where
       (preimage_complete _ _ _ (fit.total (node_b P x) n.map_listed (same total))
       (rw n.operand_region_lem at (complete_of P D p (node_a P x) premise (u.p_true refl))))
 
-  lemma_21 : Sound P D 21
-  unfolding lemma_row lemmas licence licences
-  lemma_21 x y p q u h =
-      private_pieces_disjoint P D F x (u.x_listed refl) (both h).0 fit (disjoint_of P D p _ (both h).1 (u.p_true refl))
-
   sound : (l : ℕ) → 1 ≤ l → l ≤ 21 → Sound P D l
   sound l some few =
       at_each (Sound P D) 1 21
       (lemma_1 also lemma_2 also lemma_3 also lemma_4 also lemma_5 also lemma_6 also lemma_7 also lemma_8 also lemma_9 also lemma_10
       also lemma_11 also lemma_12 also lemma_13 also lemma_14 also lemma_15 also lemma_16 also lemma_17 also lemma_18 also lemma_19
-      also lemma_20 also lemma_21 also tt)
+      also lemma_20 also lemma_21 P D F fit also tt)
       l some (omega arith)
 
   -- every step's conclusion is true

@@ -16,7 +16,7 @@ use Rattle.model.proofs.Recursion.{below_at}
 use Rattle.model.proofs.StatementKinds.{FollowsMap, KindView, is_for, is_load, is_call, is_copy, is_read_lem, is_write_lem, is_reduce_lem, is_unknown, kind_view, opens_is, accesses_is, access_opens_none}
 use Rattle.model.proofs.VariablesAgree.{FormedBefore, kind_at, course-kind, operand_a, operand_b, operand_resolved, region_computed, access_computed}
 use Rattle.model.proofs.StatementsAgree.{formed_resolves_a, formed_resolves_b}
-use Rattle.model.proofs.ParallelAgree.{access_through, access_region}
+use Rattle.model.proofs.LoopAccesses.{access_through, access_region}
 
 module _ (P : Plan) where
   pub has_symbol_lem : (s : ℕ) → Is (has_symbol P s) ↔ HasSymbol P s

@@ -24,7 +24,7 @@ use Rattle.model.proofs.Tests.{both, pair, lacks, refuted, split, fails}
 use Rattle.model.proofs.Fitting.{Fit}
 use Rattle.model.proofs.NodeSets.{region_small, node_within}
 use Rattle.model.proofs.SetsAgree.{sets_agree}
-use Rattle.model.proofs.Provenance.{pair_exists, exists_inside}
+use Rattle.model.proofs.Successors.{pair_exists, exists_inside}
 use Rattle.model.proofs.Counting.{count_same, count_most, count_cut, sum_same, sum_most, ones_lacking_lem, numbered_same, numbered_sum}
 
 module _ (P : Plan) (D : DataSet) (F : Facts P) (fit : Fit P D) (t : Transfer) (nodes : BothExist P t) where

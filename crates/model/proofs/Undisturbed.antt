@@ -4,14 +4,15 @@ use mathlib.Core.Path.{◌≡◌, refl, subst}
 use mathlib.Core.Logic.{◌⊎◌, inl, inr, ⊎_elim}
 use native.Mathlib.Omega.{arith}
 use Rattle.model.specs.Bytes.{Bytes}
-use Rattle.model.specs.Layout.{Plan, plan_of, statement_kind, statement_a, statement_c}
-use Rattle.model.specs.LoopRelations.{Resolves, Centered, loop_centered, copy_centered, AccessField, of_load, of_read, of_write, of_reduce, AccessTarget}
+use Rattle.model.specs.Layout.{Plan, plan_of, statement_kind, statement_a}
+use Rattle.model.specs.LoopRelations.{Resolves, Centered, loop_centered, copy_centered, AccessField, of_load, of_read, of_write, of_reduce}
 use Rattle.model.specs.PlainPlan.{ParallelizableLoop, Parallelizable}
 use Rattle.model.specs.DataSets.{DataSet, data_of}
 use Rattle.model.specs.Touches.{Value, itself, loaded, called, copied}
 use Rattle.model.specs.Undisturbed.{TouchesField, UndisturbedLoop, PlainlyUndisturbedLoop, Undisturbed}
 use Rattle.model.proofs.LoopsAgree.{one_definition}
 use Rattle.model.proofs.StatementKinds.{FollowsMap}
+use Rattle.model.proofs.TwoTouches.{Settles, settling_centered, beside_reduction, beside_read}
 
 module _ (P : Plan) where
   -- what follows a map is not centered
@@ -38,44 +39,15 @@ module _ (P : Plan) where
           | inr n ↦ inr (λ c. n (copied_centered {d = s} (omega (arith, h)) w c))
         ]
 
-    -- a touch's region and field are its access's
-    abbrev target : {f s k r e g : ℕ} → TouchesField P D f s k r e g → AccessTarget P s r g
-    target x = record { definition = x.touch.0; through = x.touch.1; region = x.region; field = x.field }
-
     module _ {f : ℕ} (L : ParallelizableLoop P f) where
-      -- access s writes, or reduces through a centered variable
-      abbrev Settles : {s k r e g : ℕ} → TouchesField P D f s k r e g → Type 0
-      Settles {s} x = (statement_kind P s ≡ 5) ⊎ ((statement_kind P s ≡ 6) × Centered P x.touch.0)
-
-      -- either way its variable is centered
-      settling_centered : {s k r e g : ℕ} (x : TouchesField P D f s k r e g) → Settles x → Centered P x.touch.0
-      settling_centered {s} x (inl h) = L.writes_centered s _ (omega (arith, x.inside)) x.within h x.touch.1
-      settling_centered x (inr h) = h.1
-
-      module _ {s t k l r e g : ℕ} (x : TouchesField P D f s k r e g) (y : TouchesField P D f t l r e g) where
-        -- beside a REDUCE through a pointer
-        beside_reduction :
-            statement_kind P s ≡ 6 → (Centered P x.touch.0 → ⊥) →
-            (statement_kind P t ≡ 6) × (Centered P y.touch.0 → ⊥) × (statement_c P t ≡ statement_c P s)
-        beside_reduction h n =
-            let w =
-            L.reductions_alone s t r g (omega (arith, x.inside)) (omega (arith, y.inside)) x.within y.within (target x) (target y) h n in
-            (omega (arith, w.0), w.1, omega (arith, w.2))
-
-        -- beside a read through a pointer
-        beside_read : (statement_kind P s ≡ 1) ⊎ (statement_kind P s ≡ 4) → (Centered P x.touch.0 → ⊥) → Settles y → ⊥
-        beside_read h n w =
-            L.reads_undisturbed s t r g (omega (arith, x.inside)) (omega (arith, y.inside)) x.within y.within (target x) (target y) h n
-            (elim w [ inl a ↦ inl a | inr b ↦ inr b.0 ])
-
       -- what another access writes, or reduces through a centered variable, is not touched through a pointer
       no_pointer :
-          {s t k l r e g : ℕ} (x : TouchesField P D f s k r e g) (y : TouchesField P D f t l r e g) → Settles x →
+          {s t k l r e g : ℕ} (x : TouchesField P D f s k r e g) (y : TouchesField P D f t l r e g) → Settles P D L x →
           AccessField P t g → (Centered P y.touch.0 → ⊥) → ⊥
-      no_pointer x y w (of_load h g) n = beside_read y x (inl h) n w
-      no_pointer x y w (of_read h g) n = beside_read y x (inr h) n w
-      no_pointer x y w (of_write h g) n = n (settling_centered y (inl h))
-      no_pointer x y w (of_reduce h g) n = (beside_reduction y x h n).1 (settling_centered x w)
+      no_pointer x y w (of_load h g) n = beside_read P D L y x (inl h) n w
+      no_pointer x y w (of_read h g) n = beside_read P D L y x (inr h) n w
+      no_pointer x y w (of_write h g) n = n (settling_centered P D L y (inl h))
+      no_pointer x y w (of_reduce h g) n = (beside_reduction P D L y x h n).1 (settling_centered P D L x w)
 
       -- a touch that is not through a pointer is of the iteration's own element
       own : {s k r e g : ℕ} (x : TouchesField P D f s k r e g) → ((Centered P x.touch.0 → ⊥) → ⊥) → e ≡ k
@@ -85,11 +57,11 @@ module _ (P : Plan) where
       undisturbed_loop =
           record {
             alone = λ s t k l r e g x y w.
-                let first = own x (λ n. n (settling_centered x w)) in
+                let first = own x (λ n. n (settling_centered P D L x w)) in
                 let second = own y (no_pointer x y w y.field) in
                 omega arith;
             one_operator = λ s t k l r e g x y.
-                let beside = beside_reduction x.touched y x.reduces x.uncentered in
+                let beside = beside_reduction P D L x.touched y x.reduces x.uncentered in
                 (omega (arith, beside.0), beside.1, omega (arith, beside.2));
           }
 
