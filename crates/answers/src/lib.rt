@@ -2,7 +2,7 @@
 #![tactic(auto)]
 
 ghost use Rattle.std.specs.Prelude.{◌≡◌};
-ghost use Rattle.model.specs.Answers.{report, refusalReport, writtenReport, chargeReport};
+ghost use Rattle.model.specs.Answers.{report, refusal_report, written_report, charge_report};
 
 use model::{Answer, Charge, ChargeReport, Refusal, Report, Written, WrittenReport};
 
@@ -34,7 +34,7 @@ pub fn report_answer(answer: Answer) -> Report
 
 // What an answer about a written list reports: on refusal length 0.
 pub fn report_written(answer: Written) -> WrittenReport
-    ensures { result ≡ writtenReport answer }
+    ensures { result ≡ written_report answer }
 {
     match answer {
         Written::Length(length) => WrittenReport {
@@ -52,7 +52,7 @@ pub fn report_written(answer: Written) -> WrittenReport
 
 // What a charge reports: on refusal count, cents and remainder 0.
 pub fn report_charge(answer: Charge) -> ChargeReport
-    ensures { result ≡ chargeReport answer }
+    ensures { result ≡ charge_report answer }
 {
     match answer {
         Charge::Charged {
@@ -78,7 +78,7 @@ pub fn report_charge(answer: Charge) -> ChargeReport
 
 // The table of refusals: column "no.".
 pub fn refusal_number(refusal: Refusal) -> usize
-    ensures { result ≡ (refusalReport refusal).number }
+    ensures { result ≡ (refusal_report refusal).number }
 {
     match refusal {
         Refusal::Truncated(_) => 1,
@@ -103,7 +103,7 @@ pub fn refusal_number(refusal: Refusal) -> usize
 
 // The table of refusals: column "place".
 pub fn refusal_place(refusal: Refusal) -> usize
-    ensures { result ≡ (refusalReport refusal).place }
+    ensures { result ≡ (refusal_report refusal).place }
 {
     match refusal {
         Refusal::Truncated(section) => section,

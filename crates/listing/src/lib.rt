@@ -8,7 +8,7 @@ mod text;
 
 ghost use Rattle.std.specs.Prelude.{◌<◌, OnOk};
 ghost use Rattle.std.specs.Io.KnownBytes.{Appends};
-ghost use Rattle.model.specs.Answers.{report, writtenReport, chargeReport};
+ghost use Rattle.model.specs.Answers.{report, written_report, charge_report};
 ghost use Rattle.listing.specs.Text.{answer_text, charge_text, explanation_text, node_text, pair_text, piece_text};
 
 use lines::{answer_line, charge_line, explanation_line, pair_line, piece_line};
@@ -27,7 +27,7 @@ pub fn print_answer<W: Write>(out: &mut W, answer: Answer) -> io::Result<()>
 
 // Writes the line of an explanation or of its refusal.
 pub fn print_explanation<W: Write>(out: &mut W, answer: Written) -> io::Result<()>
-    ensures { OnOk result (Appends (W.contents out.old) (W.contents out.new) (explanation_text (writtenReport answer))) }
+    ensures { OnOk result (Appends (W.contents out.old) (W.contents out.new) (explanation_text (written_report answer))) }
 {
     let mut line = [0u8; 12288];
     let end = explanation_line(&mut line, answer);
@@ -36,7 +36,7 @@ pub fn print_explanation<W: Write>(out: &mut W, answer: Written) -> io::Result<(
 
 // Writes the line of a charge or of its refusal.
 pub fn print_charge<W: Write>(out: &mut W, answer: Charge) -> io::Result<()>
-    ensures { OnOk result (Appends (W.contents out.old) (W.contents out.new) (charge_text (chargeReport answer))) }
+    ensures { OnOk result (Appends (W.contents out.old) (W.contents out.new) (charge_text (charge_report answer))) }
 {
     let mut line = [0u8; 12288];
     let end = charge_line(&mut line, answer);

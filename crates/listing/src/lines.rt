@@ -1,6 +1,6 @@
 // The lines of a report, put together in a buffer.
 ghost use Rattle.std.specs.Prelude.{◌≤◌, length};
-ghost use Rattle.model.specs.Answers.{report, writtenReport, chargeReport};
+ghost use Rattle.model.specs.Answers.{report, written_report, charge_report};
 ghost use Rattle.listing.specs.Text.{numbers_text, refused_text, answer_text, charge_text, piece_text, explained_text, explanation_text, pair_text, Shown};
 
 use crate::members::append_members;
@@ -53,7 +53,7 @@ pub fn answer_line(line: &mut [u8], answer: Answer) -> usize
 // The line of a charge or of its refusal.
 pub fn charge_line(line: &mut [u8], answer: Charge) -> usize
     requires { 12288 ≤ length line.old }
-    ensures { Shown line.new (charge_text (chargeReport answer)) result }
+    ensures { Shown line.new (charge_text (charge_report answer)) result }
 {
     let charge = report_charge(answer);
     if charge.number == 0 {
@@ -100,7 +100,7 @@ fn explained_line(line: &mut [u8], pairs: usize) -> usize
 // The line of an explanation or of its refusal.
 pub fn explanation_line(line: &mut [u8], answer: Written) -> usize
     requires { 12288 ≤ length line.old }
-    ensures { Shown line.new (explanation_text (writtenReport answer)) result }
+    ensures { Shown line.new (explanation_text (written_report answer)) result }
 {
     let written = report_written(answer);
     if written.number == 0 {

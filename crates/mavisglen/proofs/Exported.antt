@@ -16,7 +16,7 @@ use Rattle.model.specs.declared.Question.{Question}
 use Rattle.model.specs.declared.Written.{Written}
 use Rattle.model.specs.declared.Transfer.{Transfer}
 use Rattle.model.specs.declared.Charge.{Charge}
-use Rattle.model.proofs.Answers.{report-injective, written-injective, charge-injective}
+use Rattle.model.proofs.Answers.{report_injective, written_injective, charge_injective}
 use Rattle.model.proofs.Packed.{verdict_read, evaluation_read, explanation_read, charge_read_lem}
 use Rattle.mavisglen.specs.Exported.{Exported, ExportedCheck, ExportedEvaluation, ExportedExplanation, ExportedCharge}
 
@@ -35,21 +35,21 @@ exported packing determined Promise result r defined e same read h =
 
 module _ (result : ℕ) (r : Answer) (e : result ≡ packed r) where
   pub exported_check : (p : Bytes) → CheckPromise p r → ExportedCheck p result
-  exported_check p h = exported answer_packing report-injective (CheckPromise p) result r (verdict p) e h.answer (verdict_read p) h
+  exported_check p h = exported answer_packing report_injective (CheckPromise p) result r (verdict p) e h.answer (verdict_read p) h
 
   pub exported_evaluation : (p d : Bytes) (old new : List ℕ) → EvaluationPromise p d old new r → ExportedEvaluation p d old new result
   exported_evaluation p d old new h =
-      exported answer_packing report-injective (EvaluationPromise p d old new) result r (evaluation p d (length old)) e h.answer
+      exported answer_packing report_injective (EvaluationPromise p d old new) result r (evaluation p d (length old)) e h.answer
       (evaluation_read p d (length old)) h
 
 pub exported_explanation :
     (result : ℕ) (r : Written) → result ≡ packed_by written_packing r → (p d : Bytes) (q : Question) (oldNodes newNodes oldElements newElements : List ℕ) →
     ExplanationPromise p d q oldNodes newNodes oldElements newElements r → ExportedExplanation p d q oldNodes newNodes oldElements newElements result
 exported_explanation result r e p d q oldNodes newNodes oldElements newElements h =
-    exported written_packing written-injective (ExplanationPromise p d q oldNodes newNodes oldElements newElements) result r
+    exported written_packing written_injective (ExplanationPromise p d q oldNodes newNodes oldElements newElements) result r
     (explanation p d q (length oldNodes) (length oldElements)) e h.answer (explanation_read p d q (length oldNodes) (length oldElements)) h
 
 pub exported_charge :
     (result : ℕ) (r : Charge) → result ≡ packed_by charge_packing r → (p d : Bytes) (t : Transfer) → ChargePromise p d t r → ExportedCharge p d t result
 exported_charge result r e p d t h =
-    exported charge_packing charge-injective (ChargePromise p d t) result r (charge p d t) e h.answer (charge_read_lem p d t) h
+    exported charge_packing charge_injective (ChargePromise p d t) result r (charge p d t) e h.answer (charge_read_lem p d t) h

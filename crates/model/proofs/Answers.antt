@@ -6,7 +6,7 @@ use mathlib.Core.List.{List, [], ◌∷◌, map}
 use native.Mathlib.Omega.{arith}
 use lib.ListN.{get_or, get_or-eq_default}
 use Rattle.model.specs.Tests.{◌<?◌}
-use Rattle.model.specs.Answers.{refusal, refusalReport, report, writtenReport, chargeReport}
+use Rattle.model.specs.Answers.{refusal, refusal_report, report, written_report, charge_report}
 use Rattle.model.specs.declared.Refusal.{Refusal}
 use Rattle.model.specs.declared.Refusal.TheVariants.{Truncated, UnknownEdition, TrailingBytes, InvalidLength, InvalidRecord, RegionMismatch, DuplicateNode, NotParallelizable, AssignmentCount, UnlicensedStep, UnmetNeed, InvalidData, InvalidEntry, InvalidPartition, OutputTooSmall, NotFound, InvalidCharge}
 use Rattle.model.specs.declared.Outcome.{Outcome}
@@ -26,38 +26,38 @@ refusals =
     AssignmentCount ∷ UnlicensedStep ∷ UnmetNeed ∷ (λ p. InvalidData) ∷ InvalidEntry ∷ InvalidPartition ∷ OutputTooSmall ∷ NotFound ∷ InvalidCharge ∷ []
 
 -- the refusal of a number at a place; 0 and the numbers past the last stand for none
-unfoldable refusalAt : ℕ → ℕ → Outcome
-refusalAt n p = get_or (Pass ∷ map (λ make. Refuse (make p)) refusals) n Pass
+unfoldable refusal_at : ℕ → ℕ → Outcome
+refusal_at n p = get_or (Pass ∷ map (λ make. Refuse (make p)) refusals) n Pass
 
 -- what a refusal tells has no counts, and its number and place stand for it
 abbrev StandsFor : Refusal → Type 0
 StandsFor r =
-    (refusalReport r ≡ refusal (refusalReport r).number (refusalReport r).place)
-    × (refusalAt (refusalReport r).number (refusalReport r).place ≡ Refuse r)
+    (refusal_report r ≡ refusal (refusal_report r).number (refusal_report r).place)
+    × (refusal_at (refusal_report r).number (refusal_report r).place ≡ Refuse r)
 
-stands-for : (r : Refusal) → StandsFor r
-unfolding refusals refusalAt
-stands-for (Truncated p) = (refl, refl)
-stands-for UnknownEdition = (refl, refl)
-stands-for (TrailingBytes p) = (refl, refl)
-stands-for (InvalidLength p) = (refl, refl)
-stands-for (InvalidRecord p) = (refl, refl)
-stands-for (RegionMismatch p) = (refl, refl)
-stands-for (DuplicateNode p) = (refl, refl)
-stands-for (NotParallelizable p) = (refl, refl)
-stands-for (AssignmentCount p) = (refl, refl)
-stands-for (UnlicensedStep p) = (refl, refl)
-stands-for (UnmetNeed p) = (refl, refl)
-stands-for InvalidData = (refl, refl)
-stands-for (InvalidEntry p) = (refl, refl)
-stands-for (InvalidPartition p) = (refl, refl)
-stands-for (OutputTooSmall p) = (refl, refl)
-stands-for (NotFound p) = (refl, refl)
-stands-for (InvalidCharge p) = (refl, refl)
+stands_for : (r : Refusal) → StandsFor r
+unfolding refusals refusal_at
+stands_for (Truncated p) = (refl, refl)
+stands_for UnknownEdition = (refl, refl)
+stands_for (TrailingBytes p) = (refl, refl)
+stands_for (InvalidLength p) = (refl, refl)
+stands_for (InvalidRecord p) = (refl, refl)
+stands_for (RegionMismatch p) = (refl, refl)
+stands_for (DuplicateNode p) = (refl, refl)
+stands_for (NotParallelizable p) = (refl, refl)
+stands_for (AssignmentCount p) = (refl, refl)
+stands_for (UnlicensedStep p) = (refl, refl)
+stands_for (UnmetNeed p) = (refl, refl)
+stands_for InvalidData = (refl, refl)
+stands_for (InvalidEntry p) = (refl, refl)
+stands_for (InvalidPartition p) = (refl, refl)
+stands_for (OutputTooSmall p) = (refl, refl)
+stands_for (NotFound p) = (refl, refl)
+stands_for (InvalidCharge p) = (refl, refl)
 
 -- a number that stands for a refusal is one of the table's: 0 is left to acceptance, 255 to no answer of these
-number_of : (r : Refusal) (n p : ℕ) → refusalAt n p ≡ Refuse r → (1 ≤ n) × (n < 255)
-unfolding refusalAt refusals
+number_of : (r : Refusal) (n p : ℕ) → refusal_at n p ≡ Refuse r → (1 ≤ n) × (n < 255)
+unfolding refusal_at refusals
 number_of r zero p e = let z : ◌≡◌ {A = ℕ} 0 1 = cc in absurd (omega arith)
 number_of r (suc n) p e =
     elim (split (suc n <? 255)) [
@@ -70,46 +70,46 @@ number_of r (suc n) p e =
     ]
 
 module _ (r : Refusal) where
-  stands : refusalAt (refusalReport r).number (refusalReport r).place ≡ Refuse r
-  stands = (stands-for r).1
+  stands : refusal_at (refusal_report r).number (refusal_report r).place ≡ Refuse r
+  stands = (stands_for r).1
 
-  pub no-counts : refusalReport r ≡ refusal (refusalReport r).number (refusalReport r).place
-  no-counts = (stands-for r).0
+  pub no_counts : refusal_report r ≡ refusal (refusal_report r).number (refusal_report r).place
+  no_counts = (stands_for r).0
 
-  pub number-in-table : (1 ≤ (refusalReport r).number) × ((refusalReport r).number < 255)
-  number-in-table = number_of r _ _ stands
+  pub number_in_table : (1 ≤ (refusal_report r).number) × ((refusal_report r).number < 255)
+  number_in_table = number_of r _ _ stands
 
 -- number and place determine it
-pub place-injective :
-    (a b : Refusal) → (refusalReport a).number ≡ (refusalReport b).number → (refusalReport a).place ≡ (refusalReport b).place → a ≡ b
-place-injective a b n p = let both : Refuse a ≡ Refuse b = sym (stands a) ∙ ap₂ refusalAt n p ∙ stands b in cc
+pub place_injective :
+    (a b : Refusal) → (refusal_report a).number ≡ (refusal_report b).number → (refusal_report a).place ≡ (refusal_report b).place → a ≡ b
+place_injective a b n p = let both : Refuse a ≡ Refuse b = sym (stands a) ∙ ap₂ refusal_at n p ∙ stands b in cc
 
-pub refusal-injective : (a b : Refusal) → refusalReport a ≡ refusalReport b → a ≡ b
-refusal-injective a b e = place-injective a b (ap (λ t. t.number) e) (ap (λ t. t.place) e)
+pub refusal_injective : (a b : Refusal) → refusal_report a ≡ refusal_report b → a ≡ b
+refusal_injective a b e = place_injective a b (ap (λ t. t.number) e) (ap (λ t. t.place) e)
 
-pub report-injective : (a b : Answer) → report a ≡ report b → a ≡ b
+pub report_injective : (a b : Answer) → report a ≡ report b → a ≡ b
 unfolding report
-report-injective (Accepted s n t) (Accepted s' n' t') e =
+report_injective (Accepted s n t) (Accepted s' n' t') e =
     let symbols = ap (λ t. t.symbols) e in let nodes = ap (λ t. t.nodes) e in let steps = ap (λ t. t.steps) e in rw (symbols, nodes, steps)
-report-injective (Accepted s n t) (Refused b) e = absurd (omega (arith, ap (λ t. t.number) e, (number-in-table b).0))
-report-injective (Refused a) (Accepted s n t) e = absurd (omega (arith, ap (λ t. t.number) e, (number-in-table a).0))
-report-injective (Refused a) (Refused b) e = ap Refused (refusal-injective a b e)
+report_injective (Accepted s n t) (Refused b) e = absurd (omega (arith, ap (λ t. t.number) e, (number_in_table b).0))
+report_injective (Refused a) (Accepted s n t) e = absurd (omega (arith, ap (λ t. t.number) e, (number_in_table a).0))
+report_injective (Refused a) (Refused b) e = ap Refused (refusal_injective a b e)
 
 -- and of an answer about what was written
-pub written-injective : (a b : Written) → writtenReport a ≡ writtenReport b → a ≡ b
-unfolding writtenReport
-written-injective (written.Length n) (written.Length m) e = ap written.Length (ap (λ t. t.length) e)
-written-injective (written.Length n) (written.Refused b) e = absurd (omega (arith, ap (λ t. t.number) e, (number-in-table b).0))
-written-injective (written.Refused a) (written.Length m) e = absurd (omega (arith, ap (λ t. t.number) e, (number-in-table a).0))
-written-injective (written.Refused a) (written.Refused b) e =
-    ap written.Refused (place-injective a b (ap (λ t. t.number) e) (ap (λ t. t.place) e))
+pub written_injective : (a b : Written) → written_report a ≡ written_report b → a ≡ b
+unfolding written_report
+written_injective (written.Length n) (written.Length m) e = ap written.Length (ap (λ t. t.length) e)
+written_injective (written.Length n) (written.Refused b) e = absurd (omega (arith, ap (λ t. t.number) e, (number_in_table b).0))
+written_injective (written.Refused a) (written.Length m) e = absurd (omega (arith, ap (λ t. t.number) e, (number_in_table a).0))
+written_injective (written.Refused a) (written.Refused b) e =
+    ap written.Refused (place_injective a b (ap (λ t. t.number) e) (ap (λ t. t.place) e))
 
 -- and of a charge
-pub charge-injective : (a b : Charge) → chargeReport a ≡ chargeReport b → a ≡ b
-unfolding chargeReport
-charge-injective (charge.Charged n c m) (charge.Charged n' c' m') e =
+pub charge_injective : (a b : Charge) → charge_report a ≡ charge_report b → a ≡ b
+unfolding charge_report
+charge_injective (charge.Charged n c m) (charge.Charged n' c' m') e =
     let counts = ap (λ t. t.count) e in let cents = ap (λ t. t.cents) e in let remainders = ap (λ t. t.remainder) e in rw (counts, cents, remainders)
-charge-injective (charge.Charged n c m) (charge.Refused b) e = absurd (omega (arith, ap (λ t. t.number) e, (number-in-table b).0))
-charge-injective (charge.Refused a) (charge.Charged n c m) e = absurd (omega (arith, ap (λ t. t.number) e, (number-in-table a).0))
-charge-injective (charge.Refused a) (charge.Refused b) e =
-    ap charge.Refused (place-injective a b (ap (λ t. t.number) e) (ap (λ t. t.place) e))
+charge_injective (charge.Charged n c m) (charge.Refused b) e = absurd (omega (arith, ap (λ t. t.number) e, (number_in_table b).0))
+charge_injective (charge.Refused a) (charge.Charged n c m) e = absurd (omega (arith, ap (λ t. t.number) e, (number_in_table a).0))
+charge_injective (charge.Refused a) (charge.Refused b) e =
+    ap charge.Refused (place_injective a b (ap (λ t. t.number) e) (ap (λ t. t.place) e))

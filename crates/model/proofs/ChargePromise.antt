@@ -5,7 +5,7 @@ use mathlib.Core.Logic.{◌⊎◌, inl, inr, ◌↔◌}
 use native.Mathlib.Nat.{div-add-mod', mod-lt}
 use native.Mathlib.Omega.{arith}
 use Rattle.model.specs.Tests.{Is, ◌and◌, ◌==◌, ◌<?◌}
-use Rattle.model.specs.Answers.{refusalReport, chargeReport}
+use Rattle.model.specs.Answers.{refusal_report, charge_report}
 use Rattle.model.specs.Bytes.{Bytes}
 use Rattle.model.specs.Layout.{Plan, plan_of, node_count}
 use Rattle.model.specs.Nodes.{node_region}
@@ -75,7 +75,7 @@ module _ {p d : Bytes} (inputs : AcceptedInputs p d) (t : Transfer) where
   )
 
   -- 17 holds as the table says
-  transfer_refuses : (r : Refusal) → transfer_check P t ≡ Refuse r → TransferGivenWhen P t (refusalReport r).number (refusalReport r).place
+  transfer_refuses : (r : Refusal) → transfer_check P t ≡ Refuse r → TransferGivenWhen P t (refusal_report r).number (refusal_report r).place
   unfolding transfer_check
   transfer_refuses r h =
       then_cases _ _ r h
@@ -113,7 +113,7 @@ module _ {p d : Bytes} (inputs : AcceptedInputs p d) (t : Transfer) where
 -- what charging answers
 module _ (p d : Bytes) (t : Transfer) where
   -- T2b
-  charge_refuses : (r : Refusal) → charge_check p d t ≡ Refuse r → ChargeGivenWhen p d t (refusalReport r).number (refusalReport r).place
+  charge_refuses : (r : Refusal) → charge_check p d t ≡ Refuse r → ChargeGivenWhen p d t (refusal_report r).number (refusal_report r).place
   unfolding charge_check inputs_check
   charge_refuses r h =
       then_cases _ _ r h
@@ -206,10 +206,10 @@ module _ (p d : Bytes) (t : Transfer) where
     refuses s is = charging_refused _ _ _ _ s (sym answers ∙ is)
 
     pub charge_promise : ChargePromise p d t r
-    unfolding chargeReport charge priced
+    unfolding charge_report charge priced
     charge_promise =
         record {
-          answer = ap chargeReport answers;
+          answer = ap charge_report answers;
           exactly = (
             λ w. let (n, cents, remainder, is) = w in passes_exactly.0 (charging_charged _ _ _ _ _ (sym answers ∙ is)).0,
             λ w. (_, _, _, answers ∙ charging_pass _ _ (passes_exactly.1 w)),

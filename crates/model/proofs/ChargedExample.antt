@@ -4,7 +4,7 @@ use Prim.Native.Nat.{ℕ}
 use mathlib.Core.Path.{◌≡◌, refl}
 use mathlib.Core.List.{[], ◌∷◌}
 use Rattle.model.specs.Bytes.{Bytes}
-use Rattle.model.specs.Answers.{chargeReport}
+use Rattle.model.specs.Answers.{charge_report}
 use Rattle.model.specs.Encoding.{framed_bytes}
 use Rattle.model.specs.Transfers.{transferring, charge}
 use Rattle.model.specs.declared.ChargeReport.{ChargeReport}
@@ -14,7 +14,7 @@ use Rattle.model.proofs.PrivateExamples.{mesh, private_filing}
 
 -- what is told of one node against another at a price, over these inputs
 abbrev told : Bytes → Bytes → ℕ → ℕ → ℕ → ChargeReport
-told p d accessed owned price = chargeReport (charge p d (transferring accessed owned price))
+told p d accessed owned price = charge_report (charge p d (transferring accessed owned price))
 
 abbrev charging : ℕ → ℕ → ℕ → ChargeReport
 charging = told private_filing mesh

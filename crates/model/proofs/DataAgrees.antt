@@ -10,7 +10,7 @@ use Rattle.model.specs.Partitions.{PairwiseDisjoint, Covering}
 use Rattle.model.specs.Layout.{Plan, map_count, supplied_count, source, target, totality, supplied_region}
 use Rattle.model.specs.DataSets.{DataSet, data_of, NONE, pieces, size, entry, low, past, maps_to, entry_fits, entries_check, piece_bytes, supplied_bit, supplied, supplied_disjoint, supplied_complete, pad_bits_clear, declarations_hold, well_framed, data_check}
 use Rattle.model.specs.PlainData.{WellFramed, PointsTo, EntryFits, DeclarationsHold, Fits}
-use Rattle.model.specs.Answers.{refusalReport}
+use Rattle.model.specs.Answers.{refusal_report}
 use Rattle.model.specs.GivenWhen.{DataGivenWhen, invalid_data, invalid_entry, invalid_partition}
 use Rattle.model.specs.declared.Refusal.{Refusal}
 use Rattle.model.specs.declared.Refusal.TheVariants.{InvalidPartition}
@@ -187,7 +187,7 @@ data_fits P d = (fits_plainly P d, passes_data P d)
 -- where a data set is refused, the table's "given when" holds at the place
 module _ (P : Plan) (d : Bytes) (r : Refusal) where
   abbrev pub DataGiven : Type 0
-  DataGiven = DataGivenWhen P d (refusalReport r).number (refusalReport r).place
+  DataGiven = DataGivenWhen P d (refusal_report r).number (refusal_report r).place
 
   entries_refuse : entries_checked P d ≡ Refuse r → DataGiven
   unfolding entries_check

@@ -6,7 +6,7 @@ use mathlib.Core.Logic.{◌↔◌}
 use mathlib.Core.Bool.{Bool}
 use native.Mathlib.Omega.{arith}
 use Rattle.model.specs.Bytes.{Bytes}
-use Rattle.model.specs.Answers.{refusalReport}
+use Rattle.model.specs.Answers.{refusal_report}
 use Rattle.model.specs.Outcomes.{require, ◌then◌, scan}
 use Rattle.model.specs.Layout.{Plan, plan_of, section_check, layout_check, statement_count, statement_kind}
 use Rattle.model.specs.Declarations.{region_check, map_check, supplied_check}
@@ -75,8 +75,8 @@ module _ (f : ℕ) where
   abbrev Never : Outcome → Type 0
   Never o = Refuses o → ⊥
 
-  other : (b : Bool) (q : Refusal) → ((refusalReport q).number ≡ 8 → ⊥) → Never (require b q)
-  other b q n e = n (ap (λ r. (refusalReport r).number) (require_refuse b q _ e).1)
+  other : (b : Bool) (q : Refusal) → ((refusal_report q).number ≡ 8 → ⊥) → Never (require b q)
+  other b q n e = n (ap (λ r. (refusal_report r).number) (require_refuse b q _ e).1)
 
   neither : (a b : Outcome) → Never a → Never b → Never (a then b)
   neither a b m n e = then_cases a b _ e m (λ passed. n)
@@ -141,7 +141,7 @@ refused_disturbed p f h =
     let L = located f p (conclude_refused _ _ _ _ (NotParallelizable f) h) in
     let R = L.regions_listed in
     let w = L.refused in
-    let here : w.record_of_for ≡ f = ap (λ r. (refusalReport r).place) w.refusal in (
+    let here : w.record_of_for ≡ f = ap (λ r. (refusal_report r).place) w.refusal in (
       all_to_first_data (plan_of p),
       all_to_first_octets (plan_of p) R L.within_limits,
       all_to_first_fits (plan_of p) R,

@@ -9,7 +9,7 @@ use native.Mathlib.Decide.{dec_lt}
 use native.Mathlib.Omega.{arith}
 use lib.ListN.{length, get_or, drop}
 use Rattle.model.specs.Tests.{Is, ◌and◌, non, ◌≤?◌}
-use Rattle.model.specs.Answers.{refusalReport, writtenReport}
+use Rattle.model.specs.Answers.{refusal_report, written_report}
 use Rattle.model.specs.Bytes.{Bytes}
 use Rattle.model.specs.Layout.{Plan, plan_of, node_count}
 use Rattle.model.specs.Nodes.{node_region}
@@ -91,7 +91,7 @@ module _ {p d : Bytes} (inputs : AcceptedInputs p d) (q : Question) where
   )
 
   -- 16 holds as the table says
-  question_refuses : (r : Refusal) → question_check P D q ≡ Refuse r → QuestionGivenWhen P D q (refusalReport r).number (refusalReport r).place
+  question_refuses : (r : Refusal) → question_check P D q ≡ Refuse r → QuestionGivenWhen P D q (refusal_report r).number (refusal_report r).place
   unfolding question_check
   question_refuses r h =
       then_cases _ _ r h (λ h. let (n, e) = require_refuse _ _ r h in rw (← e) (no_node refl refl (λ l. lacks n (less! l)))) λ node h.
@@ -191,7 +191,7 @@ module _ (p d : Bytes) (q : Question) (lentNodes lentElements : ℕ) where
   -- T2b
   pub explanation_refuses :
       (r : Refusal) → explanation_check p d q lentNodes lentElements ≡ Refuse r →
-      ExplanationGivenWhen p d q lentNodes lentElements (refusalReport r).number (refusalReport r).place
+      ExplanationGivenWhen p d q lentNodes lentElements (refusal_report r).number (refusal_report r).place
   unfolding explanation_check inputs_check chain_room_check
   explanation_refuses r h =
       then_cases _ _ r h
@@ -341,10 +341,10 @@ module _ (p d : Bytes) (q : Question) (oldNodes newNodes oldElements newElements
   refuses s is = writing_refused _ _ s (sym answers ∙ is)
 
   pub explanation_promise : ExplanationPromise p d q oldNodes newNodes oldElements newElements r
-  unfolding writtenReport explanation list_after
+  unfolding written_report explanation list_after
   explanation_promise =
       record {
-        answer = ap writtenReport answers;
+        answer = ap written_report answers;
         nodes = leaves-nodes;
         elements = leaves-elements;
         exactly = (

@@ -6,7 +6,7 @@ use Rattle.model.specs.Bytes.{Bytes}
 use Rattle.model.specs.Layout.{plan_of}
 use Rattle.model.specs.Verdict.{records_check, plan_check}
 use Rattle.model.specs.Evaluation.{inputs_check, evaluation_check}
-use Rattle.model.specs.Answers.{refusalReport}
+use Rattle.model.specs.Answers.{refusal_report}
 use Rattle.model.specs.GivenWhen.{EvaluationGivenWhen, of_plan, of_data, of_output, output_too_small}
 use Rattle.model.specs.declared.Refusal.{Refusal}
 use Rattle.model.specs.declared.Outcome.TheVariants.{Refuse}
@@ -38,7 +38,7 @@ module _ (p : Bytes) (r : Refusal) where
 
   pub evaluation_refuses :
       (d : Bytes) (lent : ℕ) → evaluation_check p d lent ≡ Refuse r →
-      EvaluationGivenWhen p d lent (refusalReport r).number (refusalReport r).place
+      EvaluationGivenWhen p d lent (refusal_report r).number (refusal_report r).place
   unfolding evaluation_check inputs_check
   evaluation_refuses d lent h =
       then_cases _ _ r h (λ i. then_cases _ _ r i (λ e. of_plan (plan_refuses e)) λ plan e. of_data (data_refuses (plan_of p) d r e)) λ inputs h.

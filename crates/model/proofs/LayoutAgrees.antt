@@ -12,7 +12,7 @@ use Rattle.model.specs.Layout.{Plan, shapes, shape_of, section_check, layout_che
 use Rattle.model.specs.PlainPlan.{WellFormed, SectionLength, regions, maps, supplied, statements, nodes, assignments, steps}
 use Rattle.model.proofs.Tests.{lacks, both, pair, same, same!, less, less!, most, most!, Firsts, at_each}
 use Rattle.model.specs.Declarations.{region_check, map_check, supplied_check}
-use Rattle.model.specs.Answers.{refusalReport}
+use Rattle.model.specs.Answers.{refusal_report}
 use Rattle.model.specs.GivenWhen.{PlanGivenWhen, empty, truncated, unknown_edition, trailing_bytes, invalid_length}
 use Rattle.model.specs.declared.Refusal.{Refusal}
 use Rattle.model.specs.declared.Outcome.TheVariants.{Pass, Refuse}
@@ -136,7 +136,7 @@ beyond {a} {b} h = let n : ¬ (a ≤ b) = λ l. h (most! l) in omega arith
 
 -- the table's "given when" of a plan's refusal holds at its place
 abbrev pub PlanGiven : Bytes → Refusal → Type 0
-PlanGiven p r = PlanGivenWhen p (refusalReport r).number (refusalReport r).place
+PlanGiven p r = PlanGivenWhen p (refusal_report r).number (refusal_report r).place
 
 -- where the layout's checks refuse
 module _ (p : Bytes) (r : Refusal) where

@@ -8,7 +8,7 @@ use mathlib.Core.Bool.{Bool, false}
 use native.Mathlib.Nat.{mul-le-mul_right, mul-le-mul}
 use native.Mathlib.Omega.{arith}
 use Rattle.model.specs.Tests.{◌==◌}
-use Rattle.model.specs.Answers.{refusalReport, report, writtenReport, chargeReport}
+use Rattle.model.specs.Answers.{refusal_report, report, written_report, charge_report}
 use Rattle.model.specs.Bytes.{Bytes, u16, boundary}
 use Rattle.model.specs.Outcomes.{require, ◌then◌, scan, conclude, conclude_writing, conclude_charge}
 use Rattle.model.specs.Layout.{Plan, plan_of, shapes, shape_of, section_check, layout_check, statement_count, source}
@@ -35,7 +35,7 @@ use Rattle.model.specs.declared.Answer.TheVariants.{Accepted, Refused}
 use Rattle.model.specs.declared.Charge.TheVariants.{Charged}
 use Rattle.model.proofs.Tests.{split, fails, refuted, same, same!, pick_true, pick-false, ◌also◌, at_each}
 use Rattle.model.proofs.Outcomes.{then_cases, then_pass, require_pass, require_refuse, scan_pass, scan_refuse}
-use Rattle.model.proofs.Answers.{no-counts, number-in-table, report-injective}
+use Rattle.model.proofs.Answers.{no_counts, number_in_table, report_injective}
 use Rattle.model.proofs.Accepted.{Section, section_pass, laid_out_lem, limits, plan_accepted}
 use Rattle.model.proofs.DataAgrees.{frame_fits}
 use Rattle.model.proofs.AcceptedInputs.{inputs_accepted, words_most}
@@ -79,12 +79,12 @@ counts_read s n t ls ln lt =
     pick_true _ _ _ (same! refl) ∙ rw (bits.0, bits.1, bits.2)
 
 -- a refusal is not under number 0
-not_zero : (r : Refusal) → ((refusalReport r).number == 0) ≡ false
-not_zero r = let some = (number-in-table r).0 in fails (refuted (λ h. let z = same h in omega arith))
+not_zero : (r : Refusal) → ((refusal_report r).number == 0) ≡ false
+not_zero r = let some = (number_in_table r).0 in fails (refuted (λ h. let z = same h in omega arith))
 
-place_read : (r : Refusal) → answer_read (refusal_tag r) ≡ refusalReport r
+place_read : (r : Refusal) → answer_read (refusal_tag r) ≡ refusal_report r
 unfolding answer_read
-place_read r = pick-false _ _ _ (not_zero r) ∙ sym (no-counts r)
+place_read r = pick-false _ _ _ (not_zero r) ∙ sym (no_counts r)
 
 -- answers that fit their bits
 lossless : (r : Answer) → Packable r → Lossless answer_packing r
@@ -96,7 +96,7 @@ lossless (Accepted s n t) f =
       same_report = counts_read s n t (omega (arith, f.few_symbols)) (omega (arith, f.few_nodes)) (omega (arith, f.few_steps));
     }
 lossless (Refused r) f =
-    record { small_number = omega (arith, (number-in-table r).1); small_value = omega (arith, f.small_place); same_report = place_read r }
+    record { small_number = omega (arith, (number_in_table r).1); small_value = omega (arith, f.small_place); same_report = place_read r }
 
 -- the caller reads what the answer reports
 pub unpacked-packed : (r : Answer) → Packable r → unpacked (packed r) ≡ report r
@@ -104,13 +104,13 @@ unpacked-packed r f = read_back answer_packing r (lossless r f)
 
 -- two answers with one number are the same
 pub packed_injective : (a b : Answer) → Packable a → Packable b → packed a ≡ packed b → a ≡ b
-packed_injective a b f g e = report-injective a b (sym (unpacked-packed a f) ∙ ap unpacked e ∙ unpacked-packed b g)
+packed_injective a b f g e = report_injective a b (sym (unpacked-packed a f) ∙ ap unpacked e ∙ unpacked-packed b g)
 
 -- a check whose refusal has a small place
 abbrev Near : Outcome → Type 0
-Near o = (r : Refusal) → o ≡ Refuse r → (refusalReport r).place < 2 ^ 13
+Near o = (r : Refusal) → o ≡ Refuse r → (refusal_report r).place < 2 ^ 13
 
-near_require : (b : Bool) (q : Refusal) → (refusalReport q).place < 2 ^ 13 → Near (require b q)
+near_require : (b : Bool) (q : Refusal) → (refusal_report q).place < 2 ^ 13 → Near (require b q)
 near_require b q h r e = rw (require_refuse b q r e).1 at h
 
 near_then : (a b : Outcome) → Near a → (a ≡ Pass → Near b) → Near (a then b)
@@ -214,7 +214,7 @@ concluded P Pass near known =
       few_steps = L.few_steps;
     }
 concluded P (Refuse r) near known =
-    let t = no-counts r in
+    let t = no_counts r in
     record {
       small_place = near r refl;
       few_symbols = rw t (omega arith);
@@ -257,19 +257,19 @@ explanation_near p d q lentNodes lentElements =
 
 -- a length or a refusal's place that fits its bits
 written_lossless : (o : Outcome) (n : ℕ) → Near o → (o ≡ Pass → n ≤ 48) → Lossless written_packing (conclude_writing o n)
-unfolding conclude_writing writtenReport written_tag written_read
+unfolding conclude_writing written_report written_tag written_read
 written_lossless Pass n near few =
     let l = few refl in record { small_number = omega arith; small_value = omega arith; same_report = pick_true _ _ _ (same! refl) }
 written_lossless (Refuse r) n near few =
     record {
-      small_number = omega (arith, (number-in-table r).1);
+      small_number = omega (arith, (number_in_table r).1);
       small_value = omega (arith, near r refl);
       same_report = pick-false _ _ _ (not_zero r);
     }
 
 pub explanation_read :
     (p d : Bytes) (q : Question) (lentNodes lentElements : ℕ) →
-    unpacked_by written_packing (packed_by written_packing (explanation p d q lentNodes lentElements)) ≡ writtenReport (explanation p d q lentNodes lentElements)
+    unpacked_by written_packing (packed_by written_packing (explanation p d q lentNodes lentElements)) ≡ written_report (explanation p d q lentNodes lentElements)
 unfolding explanation explanation_check
 explanation_read p d q lentNodes lentElements =
     read_back written_packing _
@@ -285,7 +285,7 @@ charge_near p d t =
     near_then _ _ (near_require _ _ (omega arith)) λ regions. near_require _ _ (omega arith)
 
 -- a charge whose numbers fit their bits
-charge_numbers : (n c m : ℕ) → n < 2 ^ 16 → c < 2 ^ 24 → m < 2 ^ 16 → charge_read (charge_tag (Charged n c m)) ≡ chargeReport (Charged n c m)
+charge_numbers : (n c m : ℕ) → n < 2 ^ 16 → c < 2 ^ 24 → m < 2 ^ 16 → charge_read (charge_tag (Charged n c m)) ≡ charge_report (Charged n c m)
 unfolding charge_read charge_tag
 charge_numbers n c m ln lc lm =
     let value : ℕ = (charge_tag (Charged n c m)).value in
@@ -293,7 +293,7 @@ charge_numbers n c m ln lc lm =
     pick_true _ _ _ (same! refl) ∙ rw (bits.0, bits.1, bits.2)
 
 charge_lossless : (o : Outcome) (n price : ℕ) → Near o → (o ≡ Pass → (n ≤ 8192) × (price ≤ 1000000)) → Lossless charge_packing (conclude_charge o (priced n price))
-unfolding conclude_charge priced chargeReport charge_tag charge_read
+unfolding conclude_charge priced charge_report charge_tag charge_read
 charge_lossless Pass n price near few =
     let (ln, lp) = few refl in
     let most : n * price ≤ 8192 * 1000000 = mul-le-mul {n₂ = 8192} {m₂ = 1000000} ln lp in
@@ -304,11 +304,11 @@ charge_lossless Pass n price near few =
     }
 charge_lossless (Refuse r) n price near few =
     record {
-      small_number = omega (arith, (number-in-table r).1);
+      small_number = omega (arith, (number_in_table r).1);
       small_value = omega (arith, near r refl);
       same_report = pick-false _ _ _ (not_zero r);
     }
 
-pub charge_read_lem : (p d : Bytes) (t : Transfer) → unpacked_by charge_packing (packed_by charge_packing (charge p d t)) ≡ chargeReport (charge p d t)
+pub charge_read_lem : (p d : Bytes) (t : Transfer) → unpacked_by charge_packing (packed_by charge_packing (charge p d t)) ≡ charge_report (charge p d t)
 unfolding charge
 charge_read_lem p d t = read_back charge_packing _ (charge_lossless _ _ _ (charge_near p d t) (charge_few p d t))

@@ -5,7 +5,7 @@ use mathlib.Core.Logic.{inl, inr}
 use mathlib.Core.Bool.{Bool}
 use native.Mathlib.Omega.{arith}
 use Rattle.model.specs.Tests.{Is}
-use Rattle.model.specs.Answers.{refusalReport}
+use Rattle.model.specs.Answers.{refusal_report}
 use Rattle.model.specs.Outcomes.{require, ◌then◌, scan}
 use Rattle.model.specs.RefusalOrder.{Turn, turn, Earlier, by_stage, by_item, by_check}
 use Rattle.model.specs.declared.Refusal.{Refusal}
@@ -16,7 +16,7 @@ use Rattle.model.proofs.Outcomes.{then_cases, require_pass, require_refuse, scan
 
 -- the turn of a refusal
 abbrev pub turn_of : Refusal → Turn
-turn_of r = turn (refusalReport r).number (refusalReport r).place
+turn_of r = turn (refusal_report r).number (refusal_report r).place
 
 -- a turn is not before another of an earlier stage, of an earlier item, or of no later check
 module _ {t u : Turn} where

@@ -17,37 +17,37 @@ abbrev pub refusal : ℕ → ℕ → Report
 refusal n p = record { number = n; place = p; symbols = 0; nodes = 0; steps = 0 }
 
 -- the table of refusals: column "no." and the place
-abbrev pub refusalReport : Refusal → Report
-refusalReport (Truncated p) = refusal 1 p
-refusalReport UnknownEdition = refusal 2 0
-refusalReport (TrailingBytes p) = refusal 3 p
-refusalReport (InvalidLength p) = refusal 4 p
-refusalReport (InvalidRecord p) = refusal 5 p
-refusalReport (RegionMismatch p) = refusal 6 p
-refusalReport (DuplicateNode p) = refusal 7 p
-refusalReport (NotParallelizable p) = refusal 8 p
-refusalReport (AssignmentCount p) = refusal 9 p
-refusalReport (UnlicensedStep p) = refusal 10 p
-refusalReport (UnmetNeed p) = refusal 11 p
-refusalReport InvalidData = refusal 12 0
-refusalReport (InvalidEntry p) = refusal 13 p
-refusalReport (InvalidPartition p) = refusal 14 p
-refusalReport (OutputTooSmall p) = refusal 15 p
-refusalReport (NotFound p) = refusal 16 p
-refusalReport (InvalidCharge p) = refusal 17 p
+abbrev pub refusal_report : Refusal → Report
+refusal_report (Truncated p) = refusal 1 p
+refusal_report UnknownEdition = refusal 2 0
+refusal_report (TrailingBytes p) = refusal 3 p
+refusal_report (InvalidLength p) = refusal 4 p
+refusal_report (InvalidRecord p) = refusal 5 p
+refusal_report (RegionMismatch p) = refusal 6 p
+refusal_report (DuplicateNode p) = refusal 7 p
+refusal_report (NotParallelizable p) = refusal 8 p
+refusal_report (AssignmentCount p) = refusal 9 p
+refusal_report (UnlicensedStep p) = refusal 10 p
+refusal_report (UnmetNeed p) = refusal 11 p
+refusal_report InvalidData = refusal 12 0
+refusal_report (InvalidEntry p) = refusal 13 p
+refusal_report (InvalidPartition p) = refusal 14 p
+refusal_report (OutputTooSmall p) = refusal 15 p
+refusal_report (NotFound p) = refusal 16 p
+refusal_report (InvalidCharge p) = refusal 17 p
 
 -- what an answer tells: "Acceptance carries the numbers of symbols, nodes and steps", under number 0
 unfoldable pub report : Answer → Report
 report (Accepted symbols nodes steps) = record { number = 0; place = 0; symbols = symbols; nodes = nodes; steps = steps }
-report (Refused r) = refusalReport r
+report (Refused r) = refusal_report r
 
 -- what an answer of a writing entry point tells: "the answer is the .. length", under number 0
-unfoldable pub writtenReport : Written → WrittenReport
-writtenReport (written.Length n) = record { number = 0; place = 0; length = n }
-writtenReport (written.Refused r) = record { number = (refusalReport r).number; place = (refusalReport r).place; length = 0 }
+unfoldable pub written_report : Written → WrittenReport
+written_report (written.Length n) = record { number = 0; place = 0; length = n }
+written_report (written.Refused r) = record { number = (refusal_report r).number; place = (refusal_report r).place; length = 0 }
 
 -- what a charge tells: "The answer holds count, cents and remainder", under number 0
-unfoldable pub chargeReport : Charge → ChargeReport
-chargeReport (charge.Charged n cents remainder) = record { number = 0; place = 0; count = n; cents = cents; remainder = remainder }
-chargeReport (charge.Refused r) =
-    record { number = (refusalReport r).number; place = (refusalReport r).place; count = 0; cents = 0; remainder = 0 }
+unfoldable pub charge_report : Charge → ChargeReport
+charge_report (charge.Charged n cents remainder) = record { number = 0; place = 0; count = n; cents = cents; remainder = remainder }
+charge_report (charge.Refused r) =
+    record { number = (refusal_report r).number; place = (refusal_report r).place; count = 0; cents = 0; remainder = 0 }

@@ -1,7 +1,7 @@
 -- An answer as one number of 64 bits, for callers in C and Rust, and the way they read it.
 use Rattle.std.specs.Prelude.{ℕ, ◌+◌, ◌*◌, ◌/◌, ◌%◌, ◌^◌}
 use Rattle.model.specs.Tests.{pick, ◌==◌}
-use Rattle.model.specs.Answers.{refusal, refusalReport, report, writtenReport, chargeReport}
+use Rattle.model.specs.Answers.{refusal, refusal_report, report, written_report, charge_report}
 use Rattle.model.specs.declared.Refusal.{Refusal}
 use Rattle.model.specs.declared.Answer.{Answer}
 use Rattle.model.specs.declared.Answer.TheVariants.{Accepted, Refused}
@@ -46,7 +46,7 @@ unpacked_by packing n = packing.read (unpack n)
 
 -- a refusal: its number, and the place above it
 abbrev pub refusal_tag : Refusal → TaggedValue
-refusal_tag r = tagged (refusalReport r).number (refusalReport r).place
+refusal_tag r = tagged (refusal_report r).number (refusal_report r).place
 
 -- an acceptance: number 0, and the counts above it in 8 bits each
 unfoldable pub answer_tag : Answer → TaggedValue
@@ -79,11 +79,11 @@ written_tag (written.Refused r) = refusal_tag r
 -- what a caller makes of them: under number 0 the length, under any other a refusal at the place
 unfoldable pub written_read : TaggedValue → WrittenReport
 written_read t =
-    pick (t.number == 0) (writtenReport (written.Length t.value)) (record { number = t.number; place = t.value; length = 0 })
+    pick (t.number == 0) (written_report (written.Length t.value)) (record { number = t.number; place = t.value; length = 0 })
 
 -- how answers of entry points that write a list are packed
 abbrev pub written_packing : Packing Written WrittenReport
-written_packing = record { report = writtenReport; tag = written_tag; read = written_read }
+written_packing = record { report = written_report; tag = written_tag; read = written_read }
 
 -- a charge: number 0, and above it the count in 16 bits, the cents in 24 and the remainder in 16
 unfoldable pub charge_tag : Charge → TaggedValue
@@ -94,9 +94,9 @@ charge_tag (charge.Refused r) = refusal_tag r
 unfoldable pub charge_read : TaggedValue → ChargeReport
 charge_read t =
     pick (t.number == 0)
-    (chargeReport (charge.Charged (t.value % 2 ^ 16) (t.value / 2 ^ 16 % 2 ^ 24) (t.value / 2 ^ 40 % 2 ^ 16)))
+    (charge_report (charge.Charged (t.value % 2 ^ 16) (t.value / 2 ^ 16 % 2 ^ 24) (t.value / 2 ^ 40 % 2 ^ 16)))
     (record { number = t.number; place = t.value; count = 0; cents = 0; remainder = 0 })
 
 -- how charges are packed
 abbrev pub charge_packing : Packing Charge ChargeReport
-charge_packing = record { report = chargeReport; tag = charge_tag; read = charge_read }
+charge_packing = record { report = charge_report; tag = charge_tag; read = charge_read }

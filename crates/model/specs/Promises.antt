@@ -2,7 +2,7 @@
 -- records.
 use Rattle.std.specs.Prelude.{ℕ, ◌+◌, ◌*◌, ◌/◌, ◌≤◌, ◌<◌, ◌≡◌, ◌↔◌, List, Bool, false, length, get_or, drop}
 use Rattle.model.specs.Tests.{Is}
-use Rattle.model.specs.Answers.{report, writtenReport, chargeReport}
+use Rattle.model.specs.Answers.{report, written_report, charge_report}
 use Rattle.model.specs.Bytes.{Bytes, body}
 use Rattle.model.specs.Layout.{plan_of, statement_count, node_count}
 use Rattle.model.specs.Nodes.{node_region}
@@ -104,7 +104,7 @@ Writes r = (n : ℕ) × (r ≡ written.Length n)
 -- explaining, by plan p and data set d, what q asks, into slices that held `oldNodes` and `oldElements`, answers r and leaves the new ones
 pub record ExplanationPromise (p d : Bytes) (q : Question) (oldNodes newNodes oldElements newElements : List ℕ) (r : Written) : Type 0 where
   -- number, place and length are the definition's
-  pub answer : writtenReport r ≡ writtenReport (explanation p d q (length oldNodes) (length oldElements))
+  pub answer : written_report r ≡ written_report (explanation p d q (length oldNodes) (length oldElements))
   -- both slices, every place of them: the chain's nodes and elements, and the old ones after a refusal and past the chain's length
   pub nodes : newNodes ≡ nodes_after p d q oldNodes r
   pub elements : newElements ≡ elements_after p d q oldElements r
@@ -123,11 +123,11 @@ pub record ExplanationPromise (p d : Bytes) (q : Question) (oldNodes newNodes ol
   -- a refusal holds as the table says
   pub refused :
       (s : Refusal) → r ≡ written.Refused s →
-      ExplanationGivenWhen p d q (length oldNodes) (length oldElements) (writtenReport r).number (writtenReport r).place
+      ExplanationGivenWhen p d q (length oldNodes) (length oldElements) (written_report r).number (written_report r).place
   -- "The first met is given"
   pub first :
       (s : Refusal) → r ≡ written.Refused s → (number place : ℕ) →
-      Earlier (turn number place) (turn (writtenReport r).number (writtenReport r).place) →
+      Earlier (turn number place) (turn (written_report r).number (written_report r).place) →
       ExplanationGivenWhen p d q (length oldNodes) (length oldElements) number place → ⊥
   -- no chain is longer than there are nodes
   pub few : (n : ℕ) → r ≡ written.Length n → n ≤ 48
@@ -173,15 +173,15 @@ pub record ChargeMeans (p d : Bytes) (t : Transfer) (n cents remainder : ℕ) : 
 -- charging, by plan p and data set d, for t answers r
 pub record ChargePromise (p d : Bytes) (t : Transfer) (r : Charge) : Type 0 where
   -- number, place, count, cents and remainder are the definition's
-  pub answer : chargeReport r ≡ chargeReport (charge p d t)
+  pub answer : charge_report r ≡ charge_report (charge p d t)
   -- a charge is made exactly when the plan is accepted, the data set fits, and nodes and price are chargeable
   pub exactly :
       Charges r ↔ (WellFormed p × Parallelizable p × Licensed p × Concluded p × Fits (plan_of p) d × Chargeable (plan_of p) t)
   -- a refusal holds as the table says
-  pub refused : (s : Refusal) → r ≡ charge.Refused s → ChargeGivenWhen p d t (chargeReport r).number (chargeReport r).place
+  pub refused : (s : Refusal) → r ≡ charge.Refused s → ChargeGivenWhen p d t (charge_report r).number (charge_report r).place
   -- "The first met is given"
   pub first :
       (s : Refusal) → r ≡ charge.Refused s → (number place : ℕ) →
-      Earlier (turn number place) (turn (chargeReport r).number (chargeReport r).place) → ChargeGivenWhen p d t number place → ⊥
+      Earlier (turn number place) (turn (charge_report r).number (charge_report r).place) → ChargeGivenWhen p d t number place → ⊥
   -- its three numbers are the charge
   pub means : (n cents remainder : ℕ) → r ≡ charge.Charged n cents remainder → ChargeMeans p d t n cents remainder
