@@ -42,13 +42,7 @@ pub fn mavisglen_explain(
 }
 
 // Charges for the elements of the accessed node's pieces that the owned node's lack.
-pub fn mavisglen_charge(
-    plan: &[u8],
-    data: &[u8],
-    accessed: usize,
-    owned: usize,
-    price: u64,
-) -> u64
+pub fn mavisglen_charge(plan: &[u8], data: &[u8], accessed: usize, owned: usize, price: u64) -> u64
     ensures { ExportedCharge plan.now «data».now (transferring accessed owned price) result }
 {
     let answer = transfer::charge(plan, data, accessed, owned, price);

@@ -1,5 +1,4 @@
 -- Number and place are the refusal's. Assumes nothing.
-use borrow.Author.Rules.{rules}
 use Rattle.mavisglen.proofs.pack_refusal.Goals as goal
 
 pub returns : goal.returns

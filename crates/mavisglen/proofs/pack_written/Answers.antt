@@ -1,5 +1,4 @@
 -- By the two cases of the answer. Assumes nothing.
-use borrow.Author.Rules.{rules}
 use Rattle.model.specs.Packed.{written_tag}
 use Rattle.mavisglen.proofs.pack_written.Goals as goal
 
