@@ -4,7 +4,8 @@
 usage: python3 tools/respell.py        at the top of a checkout, once, after the toolchain's own port.py
 
 A dash stays where it joins two names that the lemma's statement cites, as in `length-body`. A lemma that would have its
-function's name gets `_lem`. Functions of src/, strings, inputs and outputs keep their names.
+function's name gets `_lem`. The test of equality is `=?`, beside `<?` and `≤?`: `==` is the library's own. Functions of
+src/, strings, inputs and outputs keep their names.
 """
 import collections
 import glob
@@ -110,7 +111,13 @@ def table():
     return result
 
 
+EQUALITY = re.compile(r"(?<![^\s◌])==(?![^\s◌])")
+
+
 def turned(path, text, names):
+    if path.endswith(".antt"):
+        text = EQUALITY.sub("=?", text)
+
     def one(m):
         name = m.group()
         # code has names in snake case of its own

@@ -9,7 +9,7 @@ use native.Mathlib.Omega.{arith}
 use lib.Pow.{pow-add, pow_mono, shr_le}
 use lib.Arith.{digits_lt}
 use lib.Bits.{bit_and, bit_or, and_lt, or_lt}
-use Rattle.model.specs.Tests.{Is, ◌and◌, ◌or◌, non, every, pick, ◌==◌, ◌<?◌}
+use Rattle.model.specs.Tests.{Is, ◌and◌, ◌or◌, non, every, pick, ◌=?◌, ◌<?◌}
 use Rattle.model.specs.Bytes.{Bytes, byte}
 use Rattle.model.specs.Words.{bit, digit, from_bits}
 use Rattle.model.proofs.Tests.{both, either, same, less, fails, every_at, pick_true, pick-false}
@@ -142,7 +142,7 @@ exchanged_word x mask by hx hm places =
 
 -- a mask's places, tested one by one
 alternating : ℕ → ℕ → ℕ → Bool
-alternating mask by b = b <? by or digit (bit mask b) + digit (bit mask (b - by)) == 1
+alternating mask by b = b <? by or digit (bit mask b) + digit (bit mask (b - by)) =? 1
 
 unlike : (s t : Bool) → digit s + digit t ≡ 1 → s ≡ non t
 unfolding non
@@ -173,15 +173,15 @@ abbrev pub FOURS : ℕ
 FOURS = 0x0F0F_0F0F_0F0F_0F0F
 
 pub ones_places : LowerPlaces ONES 1
-unfolding every ◌and◌ ◌or◌ ◌==◌ ◌<?◌ bit alternating
+unfolding every ◌and◌ ◌or◌ ◌=?◌ ◌<?◌ bit alternating
 ones_places = lower_places ONES 1 (omega arith) refl refl
 
 pub twos_places : LowerPlaces TWOS 2
-unfolding every ◌and◌ ◌or◌ ◌==◌ ◌<?◌ bit alternating
+unfolding every ◌and◌ ◌or◌ ◌=?◌ ◌<?◌ bit alternating
 twos_places = lower_places TWOS 2 (omega arith) refl refl
 
 pub fours_places : LowerPlaces FOURS 4
-unfolding every ◌and◌ ◌or◌ ◌==◌ ◌<?◌ bit alternating
+unfolding every ◌and◌ ◌or◌ ◌=?◌ ◌<?◌ bit alternating
 fours_places = lower_places FOURS 4 (omega arith) refl refl
 
 -- where a bit of a reversed byte comes from, tested place by place
@@ -192,10 +192,10 @@ from_twos : ℕ → ℕ
 from_twos b = exchanged TWOS 2 (from_fours b)
 
 reversal : ℕ → Bool
-reversal b = from_fours b <? 64 and from_twos b <? 64 and exchanged ONES 1 (from_twos b) == b / 8 * 8 + (7 - b % 8)
+reversal b = from_fours b <? 64 and from_twos b <? 64 and exchanged ONES 1 (from_twos b) =? b / 8 * 8 + (7 - b % 8)
 
 reversals : Is (every 64 reversal)
-unfolding every ◌and◌ ◌==◌ ◌<?◌ pick bit exchanged from_fours from_twos reversal
+unfolding every ◌and◌ ◌=?◌ ◌<?◌ pick bit exchanged from_fours from_twos reversal
 reversals = refl
 
 pub reversed_word : (x y z r : ℕ) → y ≡ from_bits 64 (exchanged_bits ONES 1 x) → z ≡ from_bits 64 (exchanged_bits TWOS 2 y)

@@ -10,7 +10,7 @@ use lib.Pow.{pow_pos, pow-lt}
 use lib.ListN.{length, get_or, set}
 use lib.Seq.{get_or-set_same, get_or-set_other}
 use native.Mathlib.Nat.{zero-add}
-use Rattle.model.specs.Tests.{◌and◌, ◌or◌, non, ◌==◌}
+use Rattle.model.specs.Tests.{◌and◌, ◌or◌, non, ◌=?◌}
 use Rattle.model.specs.Words.{bit, holds, from_bits, word}
 use Rattle.bitsets.specs.declared.words.SetOperator.TheVariants.{Union, Intersection, Difference}
 use Rattle.model.proofs.Tests.{both, pair, lacks, refuted, same, same!, less, less!, most, most!, same_truth}
@@ -78,12 +78,12 @@ empty_word elements w h = is_word 0 elements w (omega arith) (λ b l. bit_zero b
 
 -- an element added
 pub added : (words : List ℕ) (n x : ℕ) → n / 64 < length words
-    → holds (set words (n / 64) (bit_or (get_or words (n / 64) 0) ((1 * 2 ^ (n % 64)) % 2 ^ 64))) 0 x ≡ (holds words 0 x or x == n)
+    → holds (set words (n / 64) (bit_or (get_or words (n / 64) 0) ((1 * 2 ^ (n % 64)) % 2 ^ 64))) 0 x ≡ (holds words 0 x or x =? n)
 unfolding holds
 added words n x room = rw (one_shifted (n % 64) (omega arith), zero-add (x / 64)) (go (ℕ_discrete (x / 64) (n / 64)))
   where
     go : Dec (x / 64 ≡ n / 64)
-        → bit (get_or (set words (n / 64) (bit_or (get_or words (n / 64) 0) (2 ^ (n % 64)))) (x / 64) 0) (x % 64) ≡ (bit (get_or words (x / 64) 0) (x % 64) or x == n)
+        → bit (get_or (set words (n / 64) (bit_or (get_or words (n / 64) 0) (2 ^ (n % 64)))) (x / 64) 0) (x % 64) ≡ (bit (get_or words (x / 64) 0) (x % 64) or x =? n)
     go (yes q) =
         rw (q, get_or-set_same words (n / 64) (bit_or (get_or words (n / 64) 0) (2 ^ (n % 64))) 0 room, bit-bit_or (get_or words (n / 64) 0) (2 ^ (n % 64)) (x % 64), bit_power (n % 64) (x % 64))
         (ap (λ (t : Bool). bit (get_or words (n / 64) 0) (x % 64) or t) (same_truth (λ t. let r = same t in same! (omega arith)) (λ t. let r = same t in same! (omega arith))))

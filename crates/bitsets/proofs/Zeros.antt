@@ -8,7 +8,7 @@ use lib.Arith.{lt-one}
 use lib.Count.{count_trailing_zeros, under}
 use lib.Pow.{shr_lt}
 use lib.Bits.{bit_and}
-use Rattle.model.specs.Tests.{Is, ◌and◌, non, ◌==◌}
+use Rattle.model.specs.Tests.{Is, ◌and◌, non, ◌=?◌}
 use Rattle.model.specs.Words.{bit}
 use Rattle.model.proofs.Tests.{both, pair, lacks, refuted, same, same!, same_truth}
 use Rattle.model.proofs.Words.{bit_first, bit_next}
@@ -16,13 +16,13 @@ use Rattle.primitives.proofs.Bits.{refute, false_and, and-true, bit-bit_and}
 
 -- they are zeros
 zeros_low : (d w e : ℕ) → e < count_trailing_zeros d w → bit w e ≡ false
-unfolding count_trailing_zeros ◌==◌
+unfolding count_trailing_zeros ◌=?◌
 zeros_low zero w e h = absurd (omega arith)
 zeros_low (suc d) w e h = go (λ e l. zeros_low d (w / 2) e l) (w % 2) refl e h
   where
     go : ((e : ℕ) → e < count_trailing_zeros d (w / 2) → bit (w / 2) e ≡ false) → (r : ℕ) → w % 2 ≡ r → (e : ℕ)
         → e < under r (count_trailing_zeros d (w / 2)) → bit w e ≡ false
-    go f zero q zero h = bit_first w ∙ ap (λ (x : ℕ). x == 1) q
+    go f zero q zero h = bit_first w ∙ ap (λ (x : ℕ). x =? 1) q
     go f zero q (suc e) h = bit_next w e ∙ f e (omega arith)
     go f (suc r) q e h = absurd (omega arith)
 
@@ -52,17 +52,17 @@ module _ where
       go f (suc r) q = bit_first w ∙ same! (omega arith)
 
 -- a number less 1 has the same bits but for its lowest one and the zeros below
-lowest_cleared : (d w b : ℕ) → (w ≡ 0 → ⊥) → w < 2 ^ d → bit (bit_and w (w - 1)) b ≡ (bit w b and non (b == count_trailing_zeros d w))
+lowest_cleared : (d w b : ℕ) → (w ≡ 0 → ⊥) → w < 2 ^ d → bit (bit_and w (w - 1)) b ≡ (bit w b and non (b =? count_trailing_zeros d w))
 unfolding count_trailing_zeros
 lowest_cleared zero w b some small = absurd (some (lt-one small))
 lowest_cleared (suc d) w b some small = go (λ b n. lowest_cleared d (w / 2) b n (half_less d w small)) (w % 2) refl b
   where
-    go : ((b : ℕ) → (w / 2 ≡ 0 → ⊥) → bit (bit_and (w / 2) (w / 2 - 1)) b ≡ (bit (w / 2) b and non (b == count_trailing_zeros d (w / 2)))) → (r : ℕ) → w % 2 ≡ r
-        → (b : ℕ) → bit (bit_and w (w - 1)) b ≡ (bit w b and non (b == under r (count_trailing_zeros d (w / 2))))
+    go : ((b : ℕ) → (w / 2 ≡ 0 → ⊥) → bit (bit_and (w / 2) (w / 2 - 1)) b ≡ (bit (w / 2) b and non (b =? count_trailing_zeros d (w / 2)))) → (r : ℕ) → w % 2 ≡ r
+        → (b : ℕ) → bit (bit_and w (w - 1)) b ≡ (bit w b and non (b =? under r (count_trailing_zeros d (w / 2))))
     go f zero q zero =
         let none : bit w 0 ≡ false = bit_first w ∙ refute (λ t. let p = same t in omega arith) in
         bit-bit_and w (w - 1) 0 ∙ ap (λ (t : Bool). t and bit (w - 1) 0) none ∙ false_and _
-        ∙ sym (ap (λ (t : Bool). t and non (0 == suc (count_trailing_zeros d (w / 2)))) none ∙ false_and _)
+        ∙ sym (ap (λ (t : Bool). t and non (0 =? suc (count_trailing_zeros d (w / 2)))) none ∙ false_and _)
     go f zero q (suc b) =
         let half : (w - 1) / 2 ≡ w / 2 - 1 = omega arith in
         bit-bit_and w (w - 1) (suc b) ∙ ap₂ ◌and◌ (bit_next w b) (bit_next (w - 1) b ∙ ap (λ (x : ℕ). bit x b) half) ∙ sym (bit-bit_and (w / 2) (w / 2 - 1) b)
@@ -82,7 +82,7 @@ pub record Lowest (members t : ℕ) : Type 0 where
   pub inside : t < 64
   pub member : Is (bit members t)
   pub none_below : (b : ℕ) → b < t → bit members b ≡ false
-  pub cleared : (b : ℕ) → bit (bit_and members (members - 1)) b ≡ (bit members b and non (b == t))
+  pub cleared : (b : ℕ) → bit (bit_and members (members - 1)) b ≡ (bit members b and non (b =? t))
 
 pub lowest : (members t : ℕ) → members < 2 ^ 64 → (members ≡ 0 → ⊥) → t ≡ count_trailing_zeros 64 members → Lowest members t
 lowest members t small some is =

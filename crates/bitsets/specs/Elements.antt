@@ -1,6 +1,6 @@
 -- Sets of elements as the fills make them, from numbers, bytes and words alone.
 use Rattle.std.specs.Prelude.{ℕ, ◌+◌, ◌-◌, ◌*◌, ◌/◌, ◌%◌, ◌≤◌, ◌<◌, ◌≡◌, List, length, get_or, Bool}
-use Rattle.model.specs.Tests.{Is, ◌and◌, ◌or◌, non, any, pick, ◌==◌, ◌<?◌, ◌≤?◌}
+use Rattle.model.specs.Tests.{Is, ◌and◌, ◌or◌, non, any, pick, ◌=?◌, ◌<?◌, ◌≤?◌}
 use Rattle.model.specs.Bytes.{Bytes, byte, u16}
 use Rattle.model.specs.Words.{bit, holds, word}
 use Rattle.bitsets.specs.declared.words.SetOperator.{SetOperator}
@@ -77,7 +77,7 @@ supplied_elements members at e = bit (byte members (at + e / 8)) (7 - e % 8)
 
 -- the entries of the first n elements of a set
 unfoldable pub entries_of : ℕ → Bytes → ℕ → (ℕ → Bool) → ℕ → Bool
-entries_of n entries start elements e = any n (λ k. elements k and u16 entries (start + 2 * k) == e)
+entries_of n entries start elements e = any n (λ k. elements k and u16 entries (start + 2 * k) =? e)
 
 -- a set with the entries of the elements of a word
 unfoldable pub adding_entries : Bytes → ℕ → ℕ → (ℕ → Bool) → ℕ → Bool

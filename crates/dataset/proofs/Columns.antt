@@ -5,7 +5,7 @@ use mathlib.Core.Bool.{Bool}
 use native.Mathlib.Nat.{mul-le-mul_right, suc-mul}
 use native.Mathlib.Omega.{arith}
 use lib.Bits.{bit_and, and_lt}
-use Rattle.model.specs.Tests.{Is, ◌and◌, ◌or◌, any, ◌==◌}
+use Rattle.model.specs.Tests.{Is, ◌and◌, ◌or◌, any, ◌=?◌}
 use Rattle.model.specs.Bytes.{byte}
 use Rattle.model.specs.Words.{bit, word}
 use Rattle.model.specs.Layout.{Plan, supplied_region, supplied_flags}
@@ -58,10 +58,10 @@ module _ (P : Plan) (D : DataSet) (k : ℕ) where
   twice c = (column_of (words c) (pieces D)).repeated
 
   abbrev disjoint : Bool
-  disjoint = supplied_flags P k == 1 or supplied_flags P k == 3
+  disjoint = supplied_flags P k =? 1 or supplied_flags P k =? 3
 
   abbrev complete : Bool
-  complete = supplied_flags P k == 2 or supplied_flags P k == 3
+  complete = supplied_flags P k =? 2 or supplied_flags P k =? 3
 
   -- bit b of column c is element c * 64 + b
   bit_element : (c b i : ℕ) → b < 64 → bit (words c i) (b / 8 * 8 + (7 - b % 8)) ≡ supplied_bit P D k i (c * 64 + b)

@@ -1,7 +1,7 @@
 -- Supplied members by columns of words: eight bytes of each piece, so 64 elements at once.
 use Rattle.std.specs.Prelude.{ℕ, zero, suc, ◌+◌, ◌*◌, ◌/◌, ◌≤◌, ◌<◌, Bool, length}
 use Rattle.std.specs.Int.Bits.{bit_and, bit_or}
-use Rattle.model.specs.Tests.{◌and◌, ◌or◌, non, every, ◌==◌}
+use Rattle.model.specs.Tests.{◌and◌, ◌or◌, non, every, ◌=?◌}
 use Rattle.model.specs.Bytes.{Bytes}
 use Rattle.model.specs.Words.{from_bits, word}
 use Rattle.bitsets.specs.Elements.{up_to, between, bytes_bits, reversed_bits}
@@ -45,9 +45,9 @@ pub record ColumnInside (members : Bytes) (start size pieces c : ℕ) : Type 0 w
 -- a column keeps the flags: no element in two pieces, no element missing, no bit behind the last element
 abbrev pub column_keeps_flags : Bool → Bool → ℕ → ℕ → Column → Bool
 column_keeps_flags disjoint complete size c bits =
-    (non disjoint or bit_and bits.repeated (word (up_to size) c) == 0)
-    and (non complete or bit_and bits.seen (word (up_to size) c) == word (up_to size) c)
-    and bit_and bits.seen (word (between size (8 * ((size + 7) / 8))) c) == 0
+    (non disjoint or bit_and bits.repeated (word (up_to size) c) =? 0)
+    and (non complete or bit_and bits.seen (word (up_to size) c) =? word (up_to size) c)
+    and bit_and bits.seen (word (between size (8 * ((size + 7) / 8))) c) =? 0
 
 -- each column does, of pieces that begin at a start
 abbrev pub column_at : Bytes → ℕ → ℕ → ℕ → Bool → Bool → ℕ → Bool

@@ -1,6 +1,6 @@
 -- The entries of a data set's maps: of one map, as numbers, and of all, for every plan and data set of which these are the sections.
 use Rattle.std.specs.Prelude.{ℕ, ◌+◌, ◌*◌, ◌/◌, ◌≤◌, ◌<◌, ◌≡◌, Bool, List, get_or, length}
-use Rattle.model.specs.Tests.{every, pick, ◌==◌, ◌<?◌}
+use Rattle.model.specs.Tests.{every, pick, ◌=?◌, ◌<?◌}
 use Rattle.model.specs.Bytes.{Bytes, u16}
 use Rattle.model.specs.Outcomes.{require, scan}
 use Rattle.model.specs.Layout.{Plan, map_count, source}
@@ -14,7 +14,7 @@ pub record EntriesInside (entries : Bytes) (start count m : ℕ) : Type 0 where
   pub map_below : m < 16
 
 abbrev pub entry_fitting : ℕ → ℕ → Bool → Bool
-entry_fitting entry limit partial = pick (entry == NONE) partial (entry <? limit)
+entry_fitting entry limit partial = pick (entry =? NONE) partial (entry <? limit)
 
 abbrev pub entry_fits_at : Bytes → ℕ → ℕ → Bool → ℕ → Bool
 entry_fits_at entries start limit partial k = entry_fitting (u16 entries (start + 2 * k)) limit partial

@@ -1,6 +1,6 @@
 -- The layout of a data set: the test of its frame in two halves, and the places that reading it gives.
 use Rattle.std.specs.Prelude.{ℕ, ◌*◌, ◌/◌, ◌≤◌, ◌<◌, ◌≡◌, Bool, get_or, length}
-use Rattle.model.specs.Tests.{◌and◌, every, ◌==◌, ◌≤?◌}
+use Rattle.model.specs.Tests.{◌and◌, every, ◌=?◌, ◌≤?◌}
 use Rattle.model.specs.Bytes.{Bytes, byte, boundary}
 use Rattle.model.specs.Outcomes.{require}
 use Rattle.model.specs.Layout.{Plan, region_count, map_count, supplied_count}
@@ -22,7 +22,7 @@ DATA_SECTIONS = 4
 
 -- what the bytes must be for the sections to be cut out: a last section that ends where they do leaves room for all before it
 unfoldable pub laid_out : Bytes → Bool
-laid_out d = byte d 0 == 1 and length d == boundary d DATA_SECTIONS
+laid_out d = byte d 0 =? 1 and length d =? boundary d DATA_SECTIONS
 
 abbrev pub size_fits : DataSet → ℕ → Bool
 size_fits D r = size D r ≤? 512
@@ -33,10 +33,10 @@ sizes_fit regions D = every regions (size_fits D)
 -- what the sections must be, for so many regions, where the entries and the members must end as given
 unfoldable pub lengths_right : ℕ → DataSet → ℕ → ℕ → Bool
 lengths_right regions D entriesEnd membersEnd =
-    length D.piece_count == 1 and 1 ≤? pieces D and pieces D ≤? 16
-    and length D.sizes == 2 * regions and sizes_fit regions D
-    and length D.entries == entriesEnd
-    and length D.members == membersEnd
+    length D.piece_count =? 1 and 1 ≤? pieces D and pieces D ≤? 16
+    and length D.sizes =? 2 * regions and sizes_fit regions D
+    and length D.entries =? entriesEnd
+    and length D.members =? membersEnd
 
 -- no more maps and supplied partitions than an accepted plan has
 pub record FewDeclarations (maps supplied : Bytes) : Type 0 where

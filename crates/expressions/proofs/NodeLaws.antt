@@ -7,7 +7,7 @@ use mathlib.Core.List.{List}
 use native.Mathlib.Omega.{arith}
 use lib.ListN.{get_or, length, set}
 use denote.Enum.Declared.{tag_of}
-use Rattle.model.specs.Tests.{Is, ◌and◌, non, ◌==◌, ◌<?◌}
+use Rattle.model.specs.Tests.{Is, ◌and◌, non, ◌=?◌, ◌<?◌}
 use Rattle.model.specs.Bytes.{Bytes}
 use Rattle.model.specs.Recursion.{below}
 use Rattle.model.specs.Outcomes.{require, ◌then◌}
@@ -37,10 +37,10 @@ node_is read = rw (← read.kind, ← read.a, ← read.b, ← read.unused)
 
 -- a last byte that is 0, and one that is not
 module _ {P : Plan} {j : ℕ} {node : Node} (read : NodeRead P j node) where
-  pub unused_zero : node.unused ≡ 0 → Is (node_unused P j == 0)
+  pub unused_zero : node.unused ≡ 0 → Is (node_unused P j =? 0)
   unused_zero h = same! (sym read.unused ∙ h)
 
-  pub unused_set : (node.unused ≡ 0 → ⊥) → (node_unused P j == 0) ≡ false
+  pub unused_set : (node.unused ≡ 0 → ⊥) → (node_unused P j =? 0) ≡ false
   unused_set h = fails (refuted (λ e. h (read.unused ∙ same e)))
 
 module _ (P : Plan) (j : ℕ) where
@@ -154,7 +154,7 @@ module _ {P : Plan} {table : List ℕ} {j : ℕ} (earlier : EarlierRegions P tab
 
 -- two nodes of bytes have one key where they are one node
 key_same : {k a b k' a' b' : ℕ} → k < 256 → a < 256 → b < 256 → k' < 256 → a' < 256 → b' < 256
-    → (node_key k a b == node_key k' a' b') ≡ (k == k' and a == a' and b == b')
+    → (node_key k a b =? node_key k' a' b') ≡ (k =? k' and a =? a' and b =? b')
 key_same {k} {a} {b} {k'} {a'} {b'} k< a< b< k'< a'< b'< =
     same_truth
     (λ h.
@@ -174,7 +174,7 @@ module _ {P : Plan} {j : ℕ} {node : Node} (bytes : NodeBytes node) (read : Nod
 
   pub duplicate_known : {regionTable keyTable : List ℕ} → EarlierNodes P regionTable keyTable j → node_unused P j ≡ 0
       → is_among keyTable key j ≡ duplicate_node P j
-  unfolding duplicate_node same_node ◌and◌ ◌==◌
+  unfolding duplicate_node same_node ◌and◌ ◌=?◌
   duplicate_known earlier blank =
       rw key-is
       (any_same j _ _ (λ k lt.

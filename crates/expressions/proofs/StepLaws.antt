@@ -5,7 +5,7 @@ use mathlib.Core.Bool.{Bool, true, false}
 use mathlib.Core.List.{List}
 use native.Mathlib.Omega.{arith}
 use lib.ListN.{get_or, length, set}
-use Rattle.model.specs.Tests.{Is, ◌and◌, ◌==◌, ◌≤?◌}
+use Rattle.model.specs.Tests.{Is, ◌and◌, ◌=?◌, ◌≤?◌}
 use Rattle.model.specs.Bytes.{Bytes}
 use Rattle.model.specs.Outcomes.{require, ◌then◌}
 use Rattle.model.specs.Layout.{Plan, step_count, step_lemma, step_x, step_y, step_p, step_q}
@@ -30,10 +30,10 @@ step_of P t = record { lemma = step_lemma P t; x = step_x P t; y = step_y P t; p
 pub step_is : {P : Plan} {t : ℕ} {r : Step} → StepRead P t r → r ≡ step_of P t
 step_is read = rw (← read.lemma, ← read.x, ← read.y, ← read.p, ← read.q)
 
-never_same : {a b : ℕ} → (a ≡ b → ⊥) → (a == b) ≡ false
+never_same : {a b : ℕ} → (a ≡ b → ⊥) → (a =? b) ≡ false
 never_same h = fails (refuted (λ e. h (same e)))
 
-subset_keys : {x y v w : ℕ} → x < 256 → y < 256 → v < 256 → w < 256 → (subset_key x y == subset_key v w) ≡ (x == v and y == w)
+subset_keys : {x y v w : ℕ} → x < 256 → y < 256 → v < 256 → w < 256 → (subset_key x y =? subset_key v w) ≡ (x =? v and y =? w)
 subset_keys {x} {y} {v} {w} x< y< v< w< =
     same_truth
     (λ h. let e : subset_key x y ≡ subset_key v w = same h in pair (same! (omega arith)) (same! (omega arith)))
@@ -42,20 +42,20 @@ subset_keys {x} {y} {v} {w} x< y< v< w< =
 -- what a lemma of some form concludes of bytes, compared with a conclusion
 module _ {x y : ℕ} (x< : x < 256) (y< : y < 256) where
   subset_same : (form : Conclusion) {v w : ℕ} → v < 256 → w < 256
-      → (conclusion_key form x y == subset_key v w) ≡ (is_subset form and x == v and y == w)
+      → (conclusion_key form x y =? subset_key v w) ≡ (is_subset form and x =? v and y =? w)
   unfolding conclusion_key is_subset ◌and◌
   subset_same Subset v< w< = subset_keys x< y< v< w<
   subset_same Disjoint v< w< = never_same (λ e. omega arith)
   subset_same Complete v< w< = never_same (λ e. omega arith)
 
-  disjoint_same : (form : Conclusion) {v : ℕ} → v < 256 → (conclusion_key form x y == disjoint_key v) ≡ (is_disjoint form and x == v)
+  disjoint_same : (form : Conclusion) {v : ℕ} → v < 256 → (conclusion_key form x y =? disjoint_key v) ≡ (is_disjoint form and x =? v)
   unfolding conclusion_key is_disjoint ◌and◌
   disjoint_same Subset v< = never_same (λ e. omega arith)
   disjoint_same Disjoint {v} v< =
       same_truth (λ h. let e : disjoint_key x ≡ disjoint_key v = same h in same! (omega arith)) (λ h. let e-x = same h in same! (omega arith))
   disjoint_same Complete v< = never_same (λ e. omega arith)
 
-  complete_same : (form : Conclusion) {v : ℕ} → v < 256 → (conclusion_key form x y == complete_key v) ≡ (is_complete form and x == v)
+  complete_same : (form : Conclusion) {v : ℕ} → v < 256 → (conclusion_key form x y =? complete_key v) ≡ (is_complete form and x =? v)
   unfolding conclusion_key is_complete ◌and◌
   complete_same Subset v< = never_same (λ e. omega arith)
   complete_same Disjoint v< = never_same (λ e. omega arith)
@@ -130,13 +130,13 @@ premise_keys {P} {step} table keys formed found =
 
 -- a key that tells what step t concludes, compared with the key of a conclusion
 module _ {P : Plan} {t key : ℕ} (tells : ConclusionKey P t key) {conclusion : ℕ} where
-  pub tells_subset : {x y : ℕ} → conclusion ≡ subset_key x y → x < 256 → y < 256 → (key == conclusion) ≡ concludes_subset P t x y
+  pub tells_subset : {x y : ℕ} → conclusion ≡ subset_key x y → x < 256 → y < 256 → (key =? conclusion) ≡ concludes_subset P t x y
   tells_subset e x< y< = rw e (tells.subset _ _ x< y<)
 
-  pub tells_disjoint : {x : ℕ} → conclusion ≡ disjoint_key x → x < 256 → (key == conclusion) ≡ concludes_disjoint P t x
+  pub tells_disjoint : {x : ℕ} → conclusion ≡ disjoint_key x → x < 256 → (key =? conclusion) ≡ concludes_disjoint P t x
   tells_disjoint e x< = rw e (tells.disjoint _ x<)
 
-  pub tells_complete : {x : ℕ} → conclusion ≡ complete_key x → x < 256 → (key == conclusion) ≡ concludes_complete P t x
+  pub tells_complete : {x : ℕ} → conclusion ≡ complete_key x → x < 256 → (key =? conclusion) ≡ concludes_complete P t x
   tells_complete e x< = rw e (tells.complete _ x<)
 
 -- y of step p, as a byte of the section

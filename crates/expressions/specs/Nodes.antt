@@ -1,6 +1,6 @@
 -- A record of section 5 as it is read, and the tables of the nodes' regions and keys.
 use Rattle.std.specs.Prelude.{ℕ, ◌+◌, ◌*◌, ◌<◌, ◌≡◌, Bool, List, get_or}
-use Rattle.model.specs.Tests.{Is, ◌and◌, ◌==◌, any}
+use Rattle.model.specs.Tests.{Is, ◌and◌, ◌=?◌, any}
 use Rattle.model.specs.Bytes.{Bytes}
 use Rattle.model.specs.Layout.{Plan, node_count, node_kind, node_a, node_b, node_unused}
 use Rattle.model.specs.Nodes.{node_formed_by, node_region_by, node_region, node_agrees_by, node_check}
@@ -26,7 +26,7 @@ node_key kind a b = kind + a * 256 + b * 65536
 -- the key tells kind, a and b of node j
 abbrev pub NodeKeyOf : Plan → ℕ → ℕ → Type 0
 NodeKeyOf P j key =
-    (k a b : ℕ) → k < 256 → a < 256 → b < 256 → (key == node_key k a b) ≡ (node_kind P j == k and node_a P j == a and node_b P j == b)
+    (k a b : ℕ) → k < 256 → a < 256 → b < 256 → (key =? node_key k a b) ≡ (node_kind P j =? k and node_a P j =? a and node_b P j =? b)
 
 -- the table has such a key for each node
 abbrev pub NodeKeys : Plan → List ℕ → Type 0
@@ -34,7 +34,7 @@ NodeKeys P keys = (j : ℕ) → j < node_count P → NodeKeyOf P j (get_or keys 
 
 -- one of the first n keys is this one
 abbrev pub is_among : List ℕ → ℕ → ℕ → Bool
-is_among keys key n = any n (λ k. get_or keys k 0 == key)
+is_among keys key n = any n (λ k. get_or keys k 0 =? key)
 
 -- kind, a and b are bytes
 pub record NodeBytes (node : Node) : Type 0 where
@@ -51,7 +51,7 @@ pub record NodeRead (P : Plan) (j : ℕ) (r : Node) : Type 0 where
 
 -- node j, of this kind, is formed
 abbrev pub formed_as : Plan → NodeKind → ℕ → Bool
-formed_as P kind j = node_unused P j == 0 and node_formed_by P kind j
+formed_as P kind j = node_unused P j =? 0 and node_formed_by P kind j
 
 -- what a table has for number k
 abbrev pub entry_of : List ℕ → ℕ → ℕ

@@ -1,6 +1,6 @@
 -- A record of section 7 as it is read, and the table of what the steps conclude.
 use Rattle.std.specs.Prelude.{ℕ, ◌+◌, ◌*◌, ◌≤◌, ◌<◌, ◌≡◌, List, get_or, length}
-use Rattle.model.specs.Tests.{◌==◌}
+use Rattle.model.specs.Tests.{◌=?◌}
 use Rattle.model.specs.Bytes.{Bytes}
 use Rattle.model.specs.Layout.{Plan, step_count, step_lemma, step_x, step_y, step_p, step_q}
 use Rattle.model.specs.Lemmas.{lemma_row, concludes_subset, concludes_disjoint, concludes_complete}
@@ -59,9 +59,9 @@ pub record FormedStep (step : Step) (t : ℕ) : Type 0 where
 
 -- the key tells what step t concludes
 pub record ConclusionKey (P : Plan) (t key : ℕ) : Type 0 where
-  pub subset : (x y : ℕ) → x < 256 → y < 256 → (key == subset_key x y) ≡ concludes_subset P t x y
-  pub disjoint : (x : ℕ) → x < 256 → (key == disjoint_key x) ≡ concludes_disjoint P t x
-  pub complete : (x : ℕ) → x < 256 → (key == complete_key x) ≡ concludes_complete P t x
+  pub subset : (x y : ℕ) → x < 256 → y < 256 → (key =? subset_key x y) ≡ concludes_subset P t x y
+  pub disjoint : (x : ℕ) → x < 256 → (key =? disjoint_key x) ≡ concludes_disjoint P t x
+  pub complete : (x : ℕ) → x < 256 → (key =? complete_key x) ≡ concludes_complete P t x
   pub small : key < 196608
 
 -- the table has such a key for each of the first n steps

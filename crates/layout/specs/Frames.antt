@@ -1,6 +1,6 @@
 -- The frame of a plan: where its sections end.
 use Rattle.std.specs.Prelude.{ℕ, suc, ◌+◌, ◌/◌, ◌%◌, ◌^◌, ◌<◌, ◌≤◌, ◌≡◌, length, replicate}
-use Rattle.model.specs.Tests.{◌and◌, ◌==◌, ◌≤?◌}
+use Rattle.model.specs.Tests.{◌and◌, ◌=?◌, ◌≤?◌}
 use Rattle.model.specs.Bytes.{Bytes, boundary}
 use Rattle.model.specs.Outcomes.{require, ◌then◌, scan}
 use Rattle.model.specs.Layout as Layout
@@ -35,7 +35,7 @@ unfoldable pub length_check : ℕ → ℕ → ℕ → ℕ → Outcome
 length_check bytes at size section =
     require (at + 2 ≤? bytes and at + 2 + size ≤? bytes) (Truncated (suc section))
     then require
-    (size % (shape_of section).width == 0
+    (size % (shape_of section).width =? 0
     and (shape_of section).fewest ≤? size / (shape_of section).width
     and size / (shape_of section).width ≤? (shape_of section).most)
     (InvalidLength (suc section))

@@ -1,6 +1,6 @@
 -- The text of a report, as ASCII: the line of an answer, and the lines of the pieces.
 use Rattle.std.specs.Prelude.{ℕ, zero, suc, ◌+◌, ◌*◌, ◌/◌, ◌%◌, ◌≤◌, ◌≡◌, List, [], ◌∷◌, ◌++◌, length, take}
-use Rattle.model.specs.Tests.{◌==◌, ◌<?◌, pick}
+use Rattle.model.specs.Tests.{◌=?◌, ◌<?◌, pick}
 use Rattle.model.specs.Words.{holds}
 use Rattle.model.specs.declared.Report.{Report}
 use Rattle.model.specs.declared.WrittenReport.{WrittenReport}
@@ -34,7 +34,7 @@ unfoldable pub refused_text : ℕ → ℕ → Text
 refused_text number place = (114 ∷ 101 ∷ 102 ∷ 117 ∷ 115 ∷ 101 ∷ 100 ∷ []) ++ spaced number ++ spaced place ++ (10 ∷ [])
 
 unfoldable pub answer_text : Report → Text
-answer_text t = pick (t.number == 0) (accepted_text t.symbols t.nodes t.steps) (refused_text t.number t.place)
+answer_text t = pick (t.number =? 0) (accepted_text t.symbols t.nodes t.steps) (refused_text t.number t.place)
 
 -- "members ascending": those below n of the set whose words stand from `at` on
 unfoldable pub member_text : List ℕ → ℕ → ℕ → Text
@@ -62,7 +62,7 @@ unfoldable pub explained_text : ℕ → Text
 explained_text n = (101 ∷ 120 ∷ 112 ∷ 108 ∷ 97 ∷ 105 ∷ 110 ∷ 101 ∷ 100 ∷ []) ++ spaced n ++ (10 ∷ [])
 
 unfoldable pub explanation_text : WrittenReport → Text
-explanation_text t = pick (t.number == 0) (explained_text t.length) (refused_text t.number t.place)
+explanation_text t = pick (t.number =? 0) (explained_text t.length) (refused_text t.number t.place)
 
 -- the line of a chain's pair: its node, its element
 unfoldable pub pair_text : ℕ → ℕ → Text
@@ -73,7 +73,7 @@ abbrev pub charged_text : ℕ → ℕ → ℕ → Text
 charged_text = numbers_text (99 ∷ 104 ∷ 97 ∷ 114 ∷ 103 ∷ 101 ∷ 100 ∷ [])
 
 unfoldable pub charge_text : ChargeReport → Text
-charge_text t = pick (t.number == 0) (charged_text t.count t.cents t.remainder) (refused_text t.number t.place)
+charge_text t = pick (t.number =? 0) (charged_text t.count t.cents t.remainder) (refused_text t.number t.place)
 
 -- the text was put behind the first `at` bytes of a line, and ends at `end`
 pub record Appended (before after : Text) (at : ℕ) (text : Text) (end : ℕ) : Type 0 where

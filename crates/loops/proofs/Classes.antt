@@ -8,7 +8,7 @@ use lib.Bits.{bit_and, bit_or}
 use lib.ListN.{length, get_or, set, length-set}
 use lib.Seq.{get_or-set_same}
 use lib.Dec.{eqb}
-use Rattle.model.specs.Tests.{Is, ◌and◌, ◌or◌, non, ◌==◌, ◌≤?◌, every, pick}
+use Rattle.model.specs.Tests.{Is, ◌and◌, ◌or◌, non, ◌=?◌, ◌≤?◌, every, pick}
 use Rattle.model.specs.Words.{bit}
 use Rattle.model.specs.Statements.{is_access}
 use Rattle.model.specs.Parallel.{is_read, is_write, is_reduce}
@@ -37,7 +37,7 @@ alike_same false true h = h
 alike_same false false h = refl
 
 all_bytes : Is (every 256 (λ classes. alike (compatible_byte classes) (compatible classes)))
-unfolding alike every compatible clash bit ◌and◌ ◌or◌ non ◌==◌ ◌≤?◌
+unfolding alike every compatible clash bit ◌and◌ ◌or◌ non ◌=?◌ ◌≤?◌
 all_bytes = refl
 
 -- the rule of a byte is that of the pairs of its bits: computed for each byte
@@ -76,14 +76,14 @@ class_few a = by a.access a.centered
     by Reduces false = omega arith
 
 -- a reduction through a pointer shares with no other class
-clash_reduction : (i j : ℕ) → 4 ≤ i → clash i j ≡ non (i == j)
+clash_reduction : (i j : ℕ) → 4 ≤ i → clash i j ≡ non (i =? j)
 unfolding clash ◌and◌ ◌or◌
 clash_reduction i j h =
-    let write : (i == 3) ≡ false = refute (λ e. let q = same e in omega arith) in
-    let read : (i == 1) ≡ false = refute (λ e. let q = same e in omega arith) in
+    let write : (i =? 3) ≡ false = refute (λ e. let q = same e in omega arith) in
+    let read : (i =? 1) ≡ false = refute (λ e. let q = same e in omega arith) in
     rw (most! h, write, read) (or-false _)
 
-other_class : {i j : ℕ} → 4 ≤ i → j < 4 → (i == j) ≡ false
+other_class : {i j : ℕ} → 4 ≤ i → j < 4 → (i =? j) ≡ false
 other_class h k = refute (λ e. let q = same e in omega arith)
 
 -- a write or a reduction, by its class
@@ -99,7 +99,7 @@ writes_or_reduces Reduces false p = sym (most! {a = 2} {b = 4 + p % 4} (omega ar
 
 -- a reduction through a pointer by the same operator, by its class
 same_reduction : (b : Access) (z : Bool) (o p : ℕ) → o < 4 → (Is (is_reduce b) → p < 4)
-    → (is_reduce b and non z and o == p) ≡ (4 + o % 4 == class_by b z p)
+    → (is_reduce b and non z and o =? p) ≡ (4 + o % 4 =? class_by b z p)
 unfolding is_reduce class_by pick ◌and◌ non
 same_reduction Reduces false o p h k =
     let few = k refl in same_truth (λ e. let q = same e in same! (omega arith)) (λ e. let q = same e in same! (omega arith))
@@ -113,9 +113,9 @@ same_reduction Reduces true o p h k = sym (other_class (omega arith) (omega arit
 -- what two accesses of one region and field may not be is said by their classes
 pub clash_is : (a b : Access) (c d : Bool) (o p : ℕ) → (Is (is_reduce a) → o < 4) → (Is (is_reduce b) → p < 4)
     → (is_write a and non c
-    or is_reduce a and non c and non (is_reduce b and non d and o == p) or is_read a and non c and (is_write b or is_reduce b))
+    or is_reduce a and non c and non (is_reduce b and non d and o =? p) or is_read a and non c and (is_write b or is_reduce b))
     ≡ clash (class_by a c o) (class_by b d p)
-unfolding is_read is_write is_reduce clash class_by pick ◌and◌ ◌or◌ non ◌==◌ ◌≤?◌
+unfolding is_read is_write is_reduce clash class_by pick ◌and◌ ◌or◌ non ◌=?◌ ◌≤?◌
 clash_is Nothing b c d o p h k = refl
 clash_is Reads b true d o p h k = refl
 clash_is Reads b false d o p h k = writes_or_reduces b d p

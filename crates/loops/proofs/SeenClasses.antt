@@ -11,7 +11,7 @@ use native.Mathlib.Omega.{arith}
 use lib.ListN.{length, get_or, set, replicate}
 use lib.Seq.{get_or-set_same, get_or-set_other}
 use lib.Bits.{bit_or}
-use Rattle.model.specs.Tests.{Is, ◌and◌, ◌or◌, non, ◌==◌, ◌≤?◌, any, every, pick}
+use Rattle.model.specs.Tests.{Is, ◌and◌, ◌or◌, non, ◌=?◌, ◌≤?◌, any, every, pick}
 use Rattle.model.specs.Words.{bit}
 use Rattle.model.specs.Layout.{Plan, statement_count, statement_c}
 use Rattle.model.specs.Statements.{kind, access_of, accesses, loop, operand_definition, centered}
@@ -35,7 +35,7 @@ module _ (P : Plan) where
 
   -- accesses of a plan within its limits
   module _ {s t : ℕ} (S : AccessLimits P s) (T : AccessLimits P t) where
-    same_target_lem : same_target P s t ≡ (target_at s == target_at t)
+    same_target_lem : same_target P s t ≡ (target_at s =? target_at t)
     unfolding same_target target_number access_at
     same_target_lem =
         same_truth
@@ -46,7 +46,7 @@ module _ (P : Plan) where
 
     -- what the rule forbids is a clash of classes
     clash_at : (writes P s and uncentered P s
-        or reduces P s and uncentered P s and non (reduces P t and uncentered P t and statement_c P s == statement_c P t)
+        or reduces P s and uncentered P s and non (reduces P t and uncentered P t and statement_c P s =? statement_c P t)
         or reads P s and uncentered P s and (writes P t or reduces P t))
         ≡ clash (class_at s) (class_at t)
     unfolding reads writes reduces uncentered access_at class
@@ -68,7 +68,7 @@ module _ (P : Plan) where
   module _ (f : ℕ) where
     -- access t of the loop is of target x and class i
     abbrev of_class : ℕ → ℕ → ℕ → Bool
-    of_class x i t = access_of_loop P f t and target_at t == x and class_at t == i
+    of_class x i t = access_of_loop P f t and target_at t =? x and class_at t =? i
 
     parts : (x i t : ℕ) → Is (of_class x i t) → Is (access_of_loop P f t) × (target_at t ≡ x) × (class_at t ≡ i)
     parts x i t h = ((both h).0, same (both (both h).1).0, same (both (both h).1).1)
@@ -84,7 +84,7 @@ module _ (P : Plan) where
     not_yet t lt h = let e = same (both h).1 in absurd (omega (arith, loop_most P t))
 
     compatible_none : Is (compatible 0)
-    unfolding compatible clash bit every ◌and◌ ◌or◌ non ◌==◌ ◌≤?◌
+    unfolding compatible clash bit every ◌and◌ ◌or◌ non ◌=?◌ ◌≤?◌
     compatible_none = refl
 
     pub seen_start : Seen f (replicate 128 0)
@@ -138,7 +138,7 @@ module _ (P : Plan) where
                 stored a,
                 get_or-set_other {A = ℕ} seen (target_at s) x (bit_or (get_or seen (target_at s) 0) (2 ^ class_at s)) 0 d,
                 past.classes x i,
-                refute {a = target_at s == x} (λ h. d (sym (same h))),
+                refute {a = target_at s =? x} (λ h. d (sym (same h))),
                 and_false (access_of_loop P f s),
               )
               (sym (or-false _))

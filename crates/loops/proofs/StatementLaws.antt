@@ -9,7 +9,7 @@ use lib.ListN.{length, get_or, set, replicate, length-set}
 use lib.Seq.{get_or-set_same, get_or-set_other}
 use lib.Dec.{eqb}
 use borrow.Author.Tests.{eqb-true, eqb-false}
-use Rattle.model.specs.Tests.{Is, ◌and◌, ◌or◌, ◌==◌, pick}
+use Rattle.model.specs.Tests.{Is, ◌and◌, ◌or◌, ◌=?◌, pick}
 use Rattle.model.specs.Recursion.{below}
 use Rattle.model.specs.Layout.{Plan, statement_count}
 use Rattle.model.specs.Statements.{kind, opens_loop, opens, defines_variable, defines, variables, definition, operand, operand_definition, region_by, variable_region, centered_by, centered, statement_formed_by, statement_formed, statement_check}
@@ -28,11 +28,11 @@ use Rattle.loops.specs.Statements.{StatementContext, Variables, variables_of, Lo
 use Rattle.loops.proofs.Tables.{empty, stored, earlier_holds}
 
 -- a list after a store, at every place
-set-pick : (xs : List ℕ) (at v k : ℕ) → at < length xs → get_or (set xs at v) k 0 ≡ pick (k == at) v (get_or xs k 0)
-unfolding ◌==◌
+set-pick : (xs : List ℕ) (at v k : ℕ) → at < length xs → get_or (set xs at v) k 0 ≡ pick (k =? at) v (get_or xs k 0)
+unfolding ◌=?◌
 set-pick xs at v k room = go (eqb k at) refl
   where
-    go : (b : Bool) → eqb k at ≡ b → get_or (set xs at v) k 0 ≡ pick (k == at) v (get_or xs k 0)
+    go : (b : Bool) → eqb k at ≡ b → get_or (set xs at v) k 0 ≡ pick (k =? at) v (get_or xs k 0)
     go true e = rw (eqb-true k at e) (get_or-set_same xs at v 0 room) ∙ sym (pick_true _ _ _ e)
     go false e = get_or-set_other xs at k v 0 (eqb-false k at e) ∙ sym (pick-false _ _ _ e)
 
@@ -53,7 +53,7 @@ module _ (P : Plan) where
   definition_most : (s k : ℕ) → definition P s k ≤ s
   unfolding definition pick
   definition_most zero k = omega arith
-  definition_most (suc s) k = go (opens P s and k == 0 or defines P s and k == variables P s) (definition_most s k)
+  definition_most (suc s) k = go (opens P s and k =? 0 or defines P s and k =? variables P s) (definition_most s k)
     where
       go : (b : Bool) → definition P s k ≤ s → pick b s (definition P s k) ≤ suc s
       go true h = omega arith
@@ -69,11 +69,11 @@ module _ (P : Plan) where
   variables_start = record { count_is = refl; long = refl; defined = λ k. zeros 16 k }
 
   module _ (s : ℕ) where
-    opens_next : (k : ℕ) → opens P s ≡ true → defines P s ≡ false → definition P (s + 1) k ≡ pick (k == 0) s (definition P s k)
+    opens_next : (k : ℕ) → opens P s ≡ true → defines P s ≡ false → definition P (s + 1) k ≡ pick (k =? 0) s (definition P s k)
     unfolding definition ◌and◌ ◌or◌
-    opens_next k o d = rw (add-one s, definition, o, d, or-false (k == 0))
+    opens_next k o d = rw (add-one s, definition, o, d, or-false (k =? 0))
 
-    defines_next : (k : ℕ) → opens P s ≡ false → defines P s ≡ true → definition P (s + 1) k ≡ pick (k == variables P s) s (definition P s k)
+    defines_next : (k : ℕ) → opens P s ≡ false → defines P s ≡ true → definition P (s + 1) k ≡ pick (k =? variables P s) s (definition P s k)
     unfolding definition ◌and◌ ◌or◌
     defines_next k o d = rw (add-one s, definition, o, d)
 

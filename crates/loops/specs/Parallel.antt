@@ -1,7 +1,7 @@
 -- The accesses of loops as the checker holds them, and what it knows of the statements from section 4's reader.
 use Rattle.std.specs.Prelude.{ℕ, ◌+◌, ◌*◌, ◌/◌, ◌%◌, ◌^◌, ◌≤◌, ◌<◌, ◌≡◌, List, Bool, false, length, get_or, set}
 use Rattle.std.specs.Int.Bits.{bit_or}
-use Rattle.model.specs.Tests.{Is, ◌and◌, ◌or◌, non, ◌==◌, ◌≤?◌, every, pick}
+use Rattle.model.specs.Tests.{Is, ◌and◌, ◌or◌, non, ◌=?◌, ◌≤?◌, every, pick}
 use Rattle.model.specs.Bytes.{Bytes}
 use Rattle.model.specs.Layout.{Plan, statement_count, statement_c}
 use Rattle.model.specs.Statements.{kind, access_of, is_access, accesses, loop, operand_definition, operand_region, access_field, centered}
@@ -62,7 +62,7 @@ class a = class_by a.access a.centered a.operator
 
 -- an access of class i cannot share its region and field with one of class j; a write that is not centered not even with itself
 unfoldable pub clash : ℕ → ℕ → Bool
-clash i j = i == 3 or 4 ≤? i and non (i == j) or i == 1 and 2 ≤? j
+clash i j = i =? 3 or 4 ≤? i and non (i =? j) or i =? 1 and 2 ≤? j
 
 -- the classes whose bits a byte has can share a region and field
 unfoldable pub compatible : ℕ → Bool

@@ -4,7 +4,7 @@ use mathlib.Core.Path.{◌≡◌, refl, sym, ap, ◌∙◌}
 use mathlib.Core.Logic.{◌⊎◌, inl, inr, ◌↔◌}
 use native.Mathlib.Nat.{div-add-mod', mod-lt}
 use native.Mathlib.Omega.{arith}
-use Rattle.model.specs.Tests.{Is, ◌and◌, ◌==◌, ◌<?◌}
+use Rattle.model.specs.Tests.{Is, ◌and◌, ◌=?◌, ◌<?◌}
 use Rattle.model.specs.Answers.{refusal_report, charge_report}
 use Rattle.model.specs.Bytes.{Bytes}
 use Rattle.model.specs.Layout.{Plan, plan_of, node_count}
@@ -51,7 +51,7 @@ module _ {p d : Bytes} (inputs : AcceptedInputs p d) (t : Transfer) where
     λ w. pair (less! w.accessed_exists) (less! w.owned_exists),
   )
 
-  same_region_lem : BothExist P t → Is (node_region P t.accessed == node_region P t.owned) ↔ OneRegion P t
+  same_region_lem : BothExist P t → Is (node_region P t.accessed =? node_region P t.owned) ↔ OneRegion P t
   same_region_lem nodes = (
     λ h r s a o. sym (region_is P a) ∙ same h ∙ region_is P o,
     λ w. same! (w _ _ (region_of _ nodes.accessed_exists) (region_of _ nodes.owned_exists)),

@@ -1,5 +1,5 @@
 -- The definitions of a verdict and of an evaluation, for proofs by computation: `unfolding definitions` opens them all. Assumes nothing.
-use Rattle.model.specs.Tests.{◌and◌, ◌or◌, non, ◌==◌, ◌<?◌, ◌≤?◌, any, every, pick, first}
+use Rattle.model.specs.Tests.{◌and◌, ◌or◌, non, ◌=?◌, ◌<?◌, ◌≤?◌, any, every, pick, first}
 use Rattle.model.specs.Answers.{report, written_report, charge_report}
 use Rattle.model.specs.Outcomes.{require, ◌then◌, scan, conclude, conclude_writing, conclude_charge}
 use Rattle.model.specs.Bytes.{boundary, body}
@@ -25,7 +25,7 @@ unfoldable pub definitions : Unit {0}
 unfolding
     report verdict plan_check layout_check section_check shape_of shapes boundary body conclude require ◌then◌ scan
     records_check region_check map_check supplied_check statement_check loop_check node_check assignment_count_check assignment_check step_check need_check
-    ◌and◌ ◌or◌ non ◌==◌ ◌<?◌ ◌≤?◌ any every pick first below levels course
+    ◌and◌ ◌or◌ non ◌=?◌ ◌<?◌ ◌≤?◌ any every pick first below levels course
     kind_of opens_loop defines_variable access_of is_access kind opens defines accesses loop_before variables definition operand_by operand field_by access_field
     operand_definition region_by variable_region centered_by centered statement_formed_by statement_formed statement_agrees_by statement_agrees
     is_read is_write is_reduce reads writes reduces uncentered access_of_loop same_target conflicts parallelizable reduces_through_pointer

@@ -3,7 +3,7 @@ use Prim.Native.Nat.{ℕ, ◌+◌, ◌-◌, ◌*◌, ◌≤◌, ◌<◌}
 use mathlib.Core.Path.{◌≡◌, refl, sym, ◌∙◌}
 use mathlib.Core.Logic.{◌⊎◌, inl, inr, ◌↔◌}
 use native.Mathlib.Omega.{arith}
-use Rattle.model.specs.Tests.{Is, ◌and◌, non, pick, ◌==◌, ◌<?◌, ◌≤?◌}
+use Rattle.model.specs.Tests.{Is, ◌and◌, non, pick, ◌=?◌, ◌<?◌, ◌≤?◌}
 use Rattle.model.specs.Bytes.{Bytes}
 use Rattle.model.specs.Outcomes.{require, scan}
 use Rattle.model.specs.Partitions.{PairwiseDisjoint, Covering}
@@ -63,39 +63,39 @@ module _ (P : Plan) (D : DataSet) where
   -- a map to sets, and the entry of an element
   pub points_to : (m k e : ℕ) → Is (maps_to P D m k e) ↔ PointsTo P D m k e
   unfolding maps_to low past
-  points_to m k e = (λ h. go (split (entry P D m k == NONE)) h, back)
+  points_to m k e = (λ h. go (split (entry P D m k =? NONE)) h, back)
     where
-      go : Is (entry P D m k == NONE) ⊎ Is (non (entry P D m k == NONE)) →
-          Is (k <? size D (source P m) and entry P D m k ≤? e and e <? pick (entry P D m k == NONE) (entry P D m k) (entry P D m k + 1)) →
+      go : Is (entry P D m k =? NONE) ⊎ Is (non (entry P D m k =? NONE)) →
+          Is (k <? size D (source P m) and entry P D m k ≤? e and e <? pick (entry P D m k =? NONE) (entry P D m k) (entry P D m k + 1)) →
           PointsTo P D m k e
       go (inl n) h =
           let above = most (both (both h).1).0 in
-          let under = less (rw (pick_true (entry P D m k == NONE) (entry P D m k) (entry P D m k + 1) n) at (both (both h).1).1) in
+          let under = less (rw (pick_true (entry P D m k =? NONE) (entry P D m k) (entry P D m k + 1) n) at (both (both h).1).1) in
           absurd (omega arith)
       go (inr n) h =
           let above = most (both (both h).1).0 in
-          let under = less (rw (pick-false (entry P D m k == NONE) (entry P D m k) (entry P D m k + 1) (fails n)) at (both (both h).1).1) in
+          let under = less (rw (pick-false (entry P D m k =? NONE) (entry P D m k) (entry P D m k + 1) (fails n)) at (both (both h).1).1) in
           let is : entry P D m k ≡ e = omega arith in
           record { from = less (both h).0; entry_is = is; some = λ q. lacks n (same! (is ∙ q)) }
 
       back : PointsTo P D m k e →
-          Is (k <? size D (source P m) and entry P D m k ≤? e and e <? pick (entry P D m k == NONE) (entry P D m k) (entry P D m k + 1))
+          Is (k <? size D (source P m) and entry P D m k ≤? e and e <? pick (entry P D m k =? NONE) (entry P D m k) (entry P D m k + 1))
       back w =
           let is = w.entry_is in
-          let other : Is (non (entry P D m k == NONE)) = refuted (λ q. w.some (sym is ∙ same q)) in
+          let other : Is (non (entry P D m k =? NONE)) = refuted (λ q. w.some (sym is ∙ same q)) in
           let under : Is (e <? entry P D m k + 1) = less! (omega arith) in
-          pair (less! w.from) (pair (most! (omega arith)) (rw (pick-false (entry P D m k == NONE) (entry P D m k) (entry P D m k + 1) (fails other)) under))
+          pair (less! w.from) (pair (most! (omega arith)) (rw (pick-false (entry P D m k =? NONE) (entry P D m k) (entry P D m k + 1) (fails other)) under))
 
   pub entry_fits_lem : (m k : ℕ) → Is (entry_fits P D m k) ↔ EntryFits P D m k
   unfolding entry_fits
-  entry_fits_lem m k = (λ h. go (split (entry P D m k == NONE)) h, back)
+  entry_fits_lem m k = (λ h. go (split (entry P D m k =? NONE)) h, back)
     where
-      go : Is (entry P D m k == NONE) ⊎ Is (non (entry P D m k == NONE)) →
-          Is (pick (entry P D m k == NONE) (totality P m == 0) (entry P D m k <? size D (target P m))) → EntryFits P D m k
+      go : Is (entry P D m k =? NONE) ⊎ Is (non (entry P D m k =? NONE)) →
+          Is (pick (entry P D m k =? NONE) (totality P m =? 0) (entry P D m k <? size D (target P m))) → EntryFits P D m k
       go (inl e) h = inl (same e, same (sym (pick_true _ _ _ e) ∙ h))
       go (inr e) h = inr ((λ q. lacks e (same! q)), less (sym (pick-false _ _ _ (fails e)) ∙ h))
 
-      back : EntryFits P D m k → Is (pick (entry P D m k == NONE) (totality P m == 0) (entry P D m k <? size D (target P m)))
+      back : EntryFits P D m k → Is (pick (entry P D m k =? NONE) (totality P m =? 0) (entry P D m k <? size D (target P m)))
       back (inl w) = pick_true _ _ _ (same! w.0) ∙ same! w.1
       back (inr w) = pick-false _ _ _ (fails (refuted (λ q. w.0 (same q)))) ∙ less! w.1
 

@@ -6,7 +6,7 @@ use mathlib.Core.Logic.Iff
 use mathlib.Core.Logic.{inl, inr, ◌↔◌}
 use mathlib.Core.Bool.{Bool}
 use native.Mathlib.Omega.{arith}
-use Rattle.model.specs.Tests.{Is, non, ◌or◌, ◌<?◌, ◌==◌}
+use Rattle.model.specs.Tests.{Is, non, ◌or◌, ◌<?◌, ◌=?◌}
 use Rattle.model.specs.Bytes.{Bytes}
 use Rattle.model.specs.Outcomes.{require, ◌then◌}
 use Rattle.model.specs.Layout.{Plan, plan_of, statement_count, node_count, assignment_count, step_count, statement_kind, node_kind, node_a, node_b, node_unused, assigned}
@@ -61,7 +61,7 @@ module _ (P : Plan) where
   assignment_passes :
       (s : ℕ) → (assignment_check P s ≡ Pass) ↔
       (Is (non (has_symbol P s) or symbol_node P s <? node_count P)
-      × Is (non (has_symbol P s) or node_region P (symbol_node P s) == symbol_region P s))
+      × Is (non (has_symbol P s) or node_region P (symbol_node P s) =? symbol_region P s))
   unfolding assignment_check
   assignment_passes s = passes_two _ _ _ _
 

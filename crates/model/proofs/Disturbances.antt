@@ -6,7 +6,7 @@ use mathlib.Core.Bool.{Bool}
 use mathlib.Core.Logic.{inl, inr}
 use mathlib.Core.List.{[], ◌∷◌, ◌++◌}
 use native.Mathlib.Omega.{arith}
-use Rattle.model.specs.Tests.{Is, ◌and◌, non, ◌==◌, ◌<?◌}
+use Rattle.model.specs.Tests.{Is, ◌and◌, non, ◌=?◌, ◌<?◌}
 use Rattle.model.specs.Bytes.{Bytes}
 use Rattle.model.specs.Answers.{report, refusal}
 use Rattle.model.specs.Outcomes.{◌then◌}
@@ -84,8 +84,8 @@ module _ (P : Plan) (D : DataSet) (f : ℕ) (statements : statements_check P ≡
   -- in iteration k the CALL gives element e
   abbrev leads_to : ℕ → ℕ → Bool
   leads_to k e =
-      suc f <? statement_count P and statement_kind P f == 0 and statement_kind P (suc f) == 2 and operand_definition P (suc f) == f
-      and k <? size D (source P (statement_a P (suc f))) and entry P D (statement_a P (suc f)) k == e and non (e == 65535)
+      suc f <? statement_count P and statement_kind P f =? 0 and statement_kind P (suc f) =? 2 and operand_definition P (suc f) =? f
+      and k <? size D (source P (statement_a P (suc f))) and entry P D (statement_a P (suc f)) k =? e and non (e =? 65535)
 
   pointer : {k e : ℕ} → Is (leads_to k e) → Value P D (suc f) k e
   pointer h =
@@ -102,7 +102,7 @@ module _ (P : Plan) (D : DataSet) (f : ℕ) (statements : statements_check P ≡
 
   -- a COPY, right behind the CALL, of what it gives
   abbrev copies : Bool
-  copies = suc (suc f) <? statement_count P and statement_kind P (suc (suc f)) == 3 and operand_definition P (suc (suc f)) == suc f
+  copies = suc (suc f) <? statement_count P and statement_kind P (suc (suc f)) =? 3 and operand_definition P (suc (suc f)) =? suc f
 
   copied_pointer : {k e : ℕ} → Is (copies and leads_to k e) → Value P D (suc (suc f)) k e
   copied_pointer h =
@@ -116,7 +116,7 @@ module _ (P : Plan) (D : DataSet) (f : ℕ) (statements : statements_check P ≡
   -- statement s accesses field 0 of region 0 through the variable that d defines, in iteration k
   abbrev accesses_by : ℕ → ℕ → ℕ → Bool
   accesses_by s d k =
-      s <? statement_count P and access_of_loop P f s and operand_definition P s == d and operand_region P s == 0 and access_field P s == 0
+      s <? statement_count P and access_of_loop P f s and operand_definition P s =? d and operand_region P s =? 0 and access_field P s =? 0
       and k <? size D (statement_a P f)
 
   abbrev touching : {s d k e : ℕ} → Is (accesses_by s d k) → Value P D d k e → TouchesField P D f s k 0 e 0
@@ -138,21 +138,21 @@ module _ (P : Plan) (D : DataSet) (f : ℕ) (statements : statements_check P ≡
       }
 
   -- in iteration k access s touches the iteration's own element, or element e by what the CALL gives
-  abbrev near : {s k : ℕ} → Is (accesses_by s f k and statement_kind P f == 0) → TouchesField P D f s k 0 k 0
+  abbrev near : {s k : ℕ} → Is (accesses_by s f k and statement_kind P f =? 0) → TouchesField P D f s k 0 k 0
   near h = touching (both h).0 (itself (same (both h).1))
 
   abbrev far : {s k e : ℕ} → Is (accesses_by s (suc f) k and leads_to k e) → TouchesField P D f s k 0 e 0
   far h = touching (both h).0 (pointer (both h).1)
 
   -- and reduces it by that
-  abbrev reducing : {s k e : ℕ} → Is (accesses_by s (suc f) k and leads_to k e and statement_kind P s == 6) → ReducesField P D f s k 0 e 0
+  abbrev reducing : {s k e : ℕ} → Is (accesses_by s (suc f) k and leads_to k e and statement_kind P s =? 6) → ReducesField P D f s k 0 e 0
   reducing h =
       let (access, h) = both h in
       let (leads, reduces) = both h in
       record { touched = far (pair access leads); reduces = same reduces; uncentered = map_uncentered P (inr (same (both (both (both leads).1).1).0)) }
 
 -- two numbers that differ are not the same
-differ : {a b : ℕ} → Is (non (a == b)) → a ≡ b → ⊥
+differ : {a b : ℕ} → Is (non (a =? b)) → a ≡ b → ⊥
 differ h e = lacks h (same! e)
 
 -- for each part of the claim a plan
@@ -177,7 +177,7 @@ pub record Disturbances : Type 0 where
 
 disturbance :
     {f : ℕ} {p : Bytes} → report (verdict p) ≡ refusal 8 f → after_loops (plan_of p) ≡ Pass → data_check (plan_of p) shared_entry ≡ Pass →
-    Is (f <? statement_count (plan_of p) and statement_kind (plan_of p) f == 0) → statements_check (plan_of p) ≡ Pass →
+    Is (f <? statement_count (plan_of p) and statement_kind (plan_of p) f =? 0) → statements_check (plan_of p) ≡ Pass →
     (statements_check (plan_of p) ≡ Pass → UndisturbedLoop (plan_of p) (data_of shared_entry) f → ⊥) → Disturbed f p
 disturbance {f} refused nothing_else fits loop statements false =
     record {

@@ -6,7 +6,7 @@ use mathlib.Core.Bool.{false}
 use mathlib.Core.List.{List, [], ◌∷◌, ◌++◌}
 use native.Mathlib.Omega.{arith}
 use lib.ListN.{replicate}
-use Rattle.model.specs.Tests.{◌and◌, ◌or◌, ◌==◌, ◌<?◌, ◌≤?◌, any, pick}
+use Rattle.model.specs.Tests.{◌and◌, ◌or◌, ◌=?◌, ◌<?◌, ◌≤?◌, any, pick}
 use Rattle.model.specs.Bytes.{Bytes, boundary, body}
 use Rattle.model.specs.Encoding.{framed_bytes}
 use Rattle.model.specs.Recursion.{below, levels, course}
@@ -105,7 +105,7 @@ module _ (P : Plan) (D : DataSet) where
 -- and these are its words
 pub example_words_lem : filled_words (plan_of example_plan) (data_of (example_data 7)) (replicate 192 0) ≡ example_words
 unfolding
-    boundary body ◌and◌ ◌or◌ ◌==◌ ◌<?◌ ◌≤?◌ any pick below levels course
+    boundary body ◌and◌ ◌or◌ ◌=?◌ ◌<?◌ ◌≤?◌ any pick below levels course
     node_kind_of node_kind_at node_region_by node_region_step node_region union intersection image contiguous equal_start
     size entry_start entry low past maps_to piece_bytes member_start supplied_bit supplied equal node_sets_by node_sets member
     filled_words from_bits store

@@ -9,7 +9,7 @@ use mathlib.Core.Bool.{Bool}
 use native.Mathlib.Decide.{dec_lt}
 use native.Mathlib.Omega.{arith}
 use lib.ListN.{get_or, length}
-use Rattle.model.specs.Tests.{Is, ◌and◌, pick, ◌==◌, ◌<?◌, ◌≤?◌, every}
+use Rattle.model.specs.Tests.{Is, ◌and◌, pick, ◌=?◌, ◌<?◌, ◌≤?◌, every}
 use Rattle.model.specs.Bytes.{Bytes, byte, u16, boundary, body}
 use Rattle.model.specs.Outcomes.{require, ◌then◌, scan}
 use Rattle.model.specs.Layout.{Plan, plan_of, section_check, layout_check, region_count, map_count, supplied_count, statement_count, node_count, assignment_count, step_count, fields, source, target, totality, supplied_region, supplied_flags, statement_kind, step_lemma, step_x, step_y, step_p, step_q}
@@ -74,7 +74,7 @@ mismatch_placed b k r l = placed_require b _ (rw (section_of k r l), record_of k
 section_turn : (place n : ℕ) → place ≡ suc n → ((turn 1 place).stage ≡ 3) × ((turn 1 place).item ≡ suc n) × ((turn 1 place).check ≡ 0)
 unfolding turn turns
 section_turn place n e =
-    rw (pick-false (place == 0) (turn_at 1 0 0) (turn_at 3 place 0) (fails (refuted (λ z. let z = same z in omega arith)))) (refl, e, refl)
+    rw (pick-false (place =? 0) (turn_at 1 0 0) (turn_at 3 place 0) (fails (refuted (λ z. let z = same z in omega arith)))) (refl, e, refl)
 
 -- a section's 1 is not after a turn at the section
 section_first : (t : Turn) (place n : ℕ) → t.stage ≡ 3 → t.item ≡ suc n → place ≡ suc n → Earlier t (turn 1 place) → ⊥
@@ -147,7 +147,7 @@ module _ (p d : Bytes) where
   unfoldable stages : List Stage
   stages =
       stage_of 1 0 (require (1 ≤? length p) (Truncated 0))
-      ∷ stage_of 2 0 (require (byte p 0 == 1) UnknownEdition)
+      ∷ stage_of 2 0 (require (byte p 0 =? 1) UnknownEdition)
       ∷ stage_of 1 1 (scan (section_check p) 0 7)
       ∷ stage_of 3 0 (require (length p ≤? boundary p 7) (TrailingBytes (boundary p 7)))
       ∷ stage_of 5 (1 * 256) (regions_check (plan_of p))
@@ -182,7 +182,7 @@ module _ (p d : Bytes) where
   in_order j K lk lj = less (every_at _ _ (every_at 17 (λ k. every k (λ j. number_at j <? number_at k)) ordered K lk) j lj)
     where
       ordered : Is (every 17 (λ k. every k (λ j. number_at j <? number_at k)))
-      ordered = unfold turn turns pick ◌==◌ number_at stages every ◌<?◌ ◌and◌ in refl
+      ordered = unfold turn turns pick ◌=?◌ number_at stages every ◌<?◌ ◌and◌ in refl
 
   -- the layout passed
   laid : ((i : ℕ) → i < 4 → outcome_at i ≡ Pass) → LaidOut p
@@ -195,7 +195,7 @@ module _ (p d : Bytes) where
   Located j = ((i : ℕ) → i < j → outcome_at i ≡ Pass) → (s : Refusal) → outcome_at j ≡ Refuse s → (turn_of s).stage ≡ number_at j
 
   located : Firsts Located 0 17
-  unfolding turn turns pick ◌==◌ outcome_at number_at stages assignment_count_check entries_check
+  unfolding turn turns pick ◌=?◌ outcome_at number_at stages assignment_count_check entries_check
   located =
       (λ b. staged_require _ _ refl)
       also (λ b. staged_require _ _ refl)
@@ -264,48 +264,48 @@ module _ (p d : Bytes) where
         clear_items t f n (10 * k) r (λ i. i) (rw is at R.here) l stage (λ i li. placed i (omega arith)) (λ i s li e. omega arith)
 
     region_reached : (r : ℕ) → AtRecord 1 r → r < region_count (plan_of p) → ReachedAt t (region_check (plan_of p)) r
-    unfolding turn turns pick ◌==◌ outcome_at number_at stages
+    unfolding turn turns pick ◌=?◌ outcome_at number_at stages
     region_reached r = record_reached 4 1 _ r _ (omega arith) refl refl (λ L. omega (arith, L.few_regions)) (region_placed (plan_of p))
 
     map_reached : (m : ℕ) → AtRecord 2 m → m < map_count (plan_of p) → ReachedAt t (map_check (plan_of p)) m
-    unfolding turn turns pick ◌==◌ outcome_at number_at stages
+    unfolding turn turns pick ◌=?◌ outcome_at number_at stages
     map_reached m = record_reached 5 2 _ m _ (omega arith) refl refl (λ L. omega (arith, L.few_maps)) (map_placed (plan_of p))
 
     supplied_reached : (k : ℕ) → AtRecord 3 k → k < supplied_count (plan_of p) → ReachedAt t (supplied_check (plan_of p)) k
-    unfolding turn turns pick ◌==◌ outcome_at number_at stages
+    unfolding turn turns pick ◌=?◌ outcome_at number_at stages
     supplied_reached k = record_reached 6 3 _ k _ (omega arith) refl refl (λ L. omega (arith, L.few_supplied)) (supplied_placed (plan_of p))
 
     statement_reached : (s : ℕ) → AtRecord 4 s → s < statement_count (plan_of p) → ReachedAt t (statement_check (plan_of p)) s
-    unfolding turn turns pick ◌==◌ outcome_at number_at stages
+    unfolding turn turns pick ◌=?◌ outcome_at number_at stages
     statement_reached s = record_reached 7 4 _ s _ (omega arith) refl refl (λ L. omega (arith, L.few_statements)) (statement_placed (plan_of p))
 
     node_reached : (j : ℕ) → AtRecord 5 j → j < node_count (plan_of p) → ReachedAt t (node_check (plan_of p)) j
-    unfolding turn turns pick ◌==◌ outcome_at number_at stages
+    unfolding turn turns pick ◌=?◌ outcome_at number_at stages
     node_reached j = record_reached 9 5 _ j _ (omega arith) refl refl (λ L. omega (arith, L.few_nodes)) (node_placed (plan_of p))
 
     step_reached : (k : ℕ) → AtRecord 7 k → k < step_count (plan_of p) → ReachedAt t (step_check (plan_of p)) k
-    unfolding turn turns pick ◌==◌ outcome_at number_at stages
+    unfolding turn turns pick ◌=?◌ outcome_at number_at stages
     step_reached k = record_reached 12 7 _ k _ (omega arith) refl refl (λ L. omega (arith, L.few_steps)) (step_placed (plan_of p))
 
     section_reached : (n : ℕ) → t.stage ≡ 3 → t.item ≡ suc n → n < 7 → ReachedAt t (section_check p) n
-    unfolding turn turns pick ◌==◌ outcome_at number_at stages
+    unfolding turn turns pick ◌=?◌ outcome_at number_at stages
     section_reached n stage item l =
         clear_items t (section_check p) 7 3 n suc (reached 2 (omega arith) (omega arith)).here l stage (λ i li. section_placed p i)
         (λ i s li e. omega arith)
 
     -- sections 4, 5 and 6 as read before that
     statements_read : number_at 8 ≤ t.stage → StatementsRead (plan_of p)
-    unfolding turn turns pick ◌==◌ outcome_at number_at stages
+    unfolding turn turns pick ◌=?◌ outcome_at number_at stages
     statements_read l = (statements_pass (plan_of p)).0 ((reached 8 (omega arith) l).before 7 (omega arith))
 
     nodes_read : number_at 10 ≤ t.stage → NodesRead (plan_of p)
-    unfolding turn turns pick ◌==◌ outcome_at number_at stages
+    unfolding turn turns pick ◌=?◌ outcome_at number_at stages
     nodes_read l = nodes_plainly (plan_of p) ((reached 10 (omega arith) l).before 9 (omega arith))
 
     -- the statement that a symbol's turn is at
     assignment_reached :
         (s : ℕ) → AtRecord 6 (symbol (plan_of p) s) → s < statement_count (plan_of p) → ReachedAt t (assignment_check (plan_of p)) s
-    unfolding turn turns pick ◌==◌ outcome_at number_at stages
+    unfolding turn turns pick ◌=?◌ outcome_at number_at stages
     assignment_reached s (late, at) l =
         let few = (limited late).few_statements in
         let m = symbol_most (plan_of p) s in
@@ -315,7 +315,7 @@ module _ (p d : Bytes) where
         (λ i q li e. let g = symbol_grows (plan_of p) i s li (assignment_symbol (plan_of p) i q e) in omega arith)
 
     need_reached : (s : ℕ) → t.stage ≡ number_at 13 → t.item ≡ symbol (plan_of p) s → s < statement_count (plan_of p) → ReachedAt t (need_check (plan_of p)) s
-    unfolding turn turns pick ◌==◌ outcome_at number_at stages
+    unfolding turn turns pick ◌=?◌ outcome_at number_at stages
     need_reached s stage item l =
         clear_items t (need_check (plan_of p)) _ (number_at 13) s (symbol (plan_of p)) (reached 13 (omega arith) (omega arith)).here l stage
         (λ i li. need_placed (plan_of p) i)
@@ -327,7 +327,7 @@ module _ (p d : Bytes) where
 
   -- the layout
   some_byte : Clear 1 0 → 1 ≤ length p
-  unfolding turn turns pick ◌==◌ outcome_at number_at stages
+  unfolding turn turns pick ◌=?◌ outcome_at number_at stages
   some_byte h = most (clear_test _ _ (reached _ h 0 (omega arith) (omega arith)).here not_itself)
 
   section_ends : (n : ℕ) → n < 7 → Clear 1 (suc n) → boundary p (suc n) ≤ length p
@@ -338,11 +338,11 @@ module _ (p d : Bytes) where
       most (both (clear_both _ _ _ R.here (section_first _ _ n at.0 at.1 (omega arith))).0).1
 
   edition_known : Clear 2 0 → byte p 0 ≡ 1
-  unfolding turn turns pick ◌==◌ outcome_at number_at stages
+  unfolding turn turns pick ◌=?◌ outcome_at number_at stages
   edition_known h = same (clear_test _ _ (reached _ h 1 (omega arith) (omega arith)).here not_itself)
 
   nothing_after : Clear 3 (boundary p 7) → length p ≤ boundary p 7
-  unfolding turn turns pick ◌==◌ outcome_at number_at stages
+  unfolding turn turns pick ◌=?◌ outcome_at number_at stages
   nothing_after h = most (clear_test _ _ (reached _ h 3 (omega arith) (omega arith)).here not_itself)
 
   section_measured : (n : ℕ) → n < 7 → Clear 4 (suc n) → SectionLength (suc n) (length (body p n))
@@ -396,7 +396,7 @@ module _ (p d : Bytes) where
 
   loop_clear :
       (f : ℕ) → f < statement_count (plan_of p) → statement_kind (plan_of p) f ≡ 0 → Clear 8 f → ParallelizableLoop (plan_of p) f
-  unfolding loop_check turn turns pick ◌==◌ outcome_at number_at stages
+  unfolding loop_check turn turns pick ◌=?◌ outcome_at number_at stages
   loop_clear f l e h =
       let R = clear_items _ (loop_check (plan_of p)) _ (turn 8 f).stage f (λ i. i) (reached _ h 8 (omega arith) (omega arith)).here l refl
       (λ i li. loop_placed (plan_of p) i) (λ i s li q. li) in
@@ -433,7 +433,7 @@ module _ (p d : Bytes) where
 
   -- section 6, and the count before it
   count_clear : (n : ℕ) → SymbolsBefore (plan_of p) (statement_count (plan_of p)) n → Clear 9 n → assignment_count (plan_of p) ≡ n
-  unfolding assignment_count_check turn turns pick ◌==◌ outcome_at number_at stages
+  unfolding assignment_count_check turn turns pick ◌=?◌ outcome_at number_at stages
   count_clear n w h =
       same (clear_test _ _ (reached _ h 10 (omega arith) (omega arith)).here not_itself) ∙ symbol_computed (plan_of p) w
 
@@ -448,7 +448,7 @@ module _ (p d : Bytes) where
   assigned_region_clear :
       (s : ℕ) → s < statement_count (plan_of p) → HasSymbol (plan_of p) s → Clear 6 (6 * 256 + symbol (plan_of p) s) →
       (r : ℕ) → SymbolRegion (plan_of p) s r → NodeRegion (plan_of p) (symbol_node (plan_of p) s) r
-  unfolding assignment_check turn turns pick ◌==◌ number_at stages
+  unfolding assignment_check turn turns pick ◌=?◌ number_at stages
   assigned_region_clear s l y h =
       let at = at_place _ h 6 (symbol (plan_of p) s) (omega arith) refl refl in
       let few = (limited _ h at.0).few_statements in
@@ -479,7 +479,7 @@ module _ (p d : Bytes) where
       (step_licence (plan_of p) k (upto k (λ i l. (step_passes (plan_of p) i (R.before i l)).0) formed)).0 (clear_test _ _ rest not_itself)
 
   needs_clear : (s : ℕ) → s < statement_count (plan_of p) → Clear 11 (symbol (plan_of p) s) → NeedsConcluded (plan_of p) s
-  unfolding need_check turn turns pick ◌==◌ outcome_at number_at stages
+  unfolding need_check turn turns pick ◌=?◌ outcome_at number_at stages
   needs_clear s l h =
       let R = need_reached _ h s refl refl l in
       let B = reached _ h 13 (omega arith) (omega arith) in
@@ -491,13 +491,13 @@ module _ (p d : Bytes) where
 
   -- the data set
   frame_clear : Clear 12 0 → WellFramed (plan_of p) d
-  unfolding turn turns pick ◌==◌ outcome_at number_at stages
+  unfolding turn turns pick ◌=?◌ outcome_at number_at stages
   frame_clear h = (frame_fits (plan_of p) d).0 (clear_test _ _ (reached _ h 14 (omega arith) (omega arith)).here not_itself)
 
   entry_clear :
       (m k : ℕ) → m < map_count (plan_of p) → k < size (data_of d) (source (plan_of p) m) → Clear 13 (m * 512 + k) →
       EntryFits (plan_of p) (data_of d) m k
-  unfolding entries_check turn turns pick ◌==◌ outcome_at number_at stages
+  unfolding entries_check turn turns pick ◌=?◌ outcome_at number_at stages
   entry_clear m k lm lk h =
       let B = reached _ h 15 (omega arith) (omega arith) in
       let frame = (frame_fits (plan_of p) d).0 (require_pass _ _ (B.before 14 (omega arith))) in
@@ -513,7 +513,7 @@ module _ (p d : Bytes) where
       (entry_fits_lem (plan_of p) (data_of d) m k).0 (clear_test _ _ K.here (check_passed refl (omega arith) (omega arith)))
 
   declarations_clear : (k : ℕ) → k < supplied_count (plan_of p) → Clear 14 k → DeclarationsHold (plan_of p) (data_of d) k
-  unfolding turn turns pick ◌==◌ outcome_at number_at stages
+  unfolding turn turns pick ◌=?◌ outcome_at number_at stages
   declarations_clear k l h =
       let R = clear_items _ _ _ (turn 14 k).stage k (λ i. i) (reached _ h 16 (omega arith) (omega arith)).here l refl
       (λ i li. placed_require _ _ (refl, refl)) (λ i s li e. li) in

@@ -6,7 +6,7 @@ use native.Mathlib.Nat.{le_refl, suc-mul, mul-le-mul_right}
 use native.Mathlib.Decide.{le_ind}
 use native.Mathlib.Omega.{arith}
 use lib.ListN.{length}
-use Rattle.model.specs.Tests.{Is, non, ◌==◌}
+use Rattle.model.specs.Tests.{Is, non, ◌=?◌}
 use Rattle.model.specs.Bytes.{Bytes, byte, boundary}
 use Rattle.model.specs.Partitions.{equal_start, PairwiseDisjoint, Covering}
 use Rattle.model.specs.Layout.{Plan, region_count, map_count, supplied_count, source, target, totality, supplied_region, supplied_flags}
@@ -48,31 +48,31 @@ pub record Fit (P : Plan) (D : DataSet) : Type 0 where
 
 -- an entry is none, or leads to one element
 module _ (P : Plan) (D : DataSet) (m k : ℕ) where
-  maps_from : (e : ℕ) → Is (maps_to P D m k e) → (k < size D (source P m)) × Is (non (entry P D m k == NONE)) × (e ≡ entry P D m k)
+  maps_from : (e : ℕ) → Is (maps_to P D m k e) → (k < size D (source P m)) × Is (non (entry P D m k =? NONE)) × (e ≡ entry P D m k)
   unfolding maps_to low past
   maps_from e h =
       let (inside, range) = both h in
       let from = most (both range).0 in
       let up_to_lem = less (both range).1 in
-      elim (split (entry P D m k == NONE)) [
+      elim (split (entry P D m k =? NONE)) [
         | inl none ↦ absurd (omega (arith, rw (pick_true _ _ _ none) at up_to_lem))
         | inr some ↦ (less inside, some, omega (arith, rw (pick-false _ _ _ (fails some)) at up_to_lem))
       ]
 
-  maps_to_lem : k < size D (source P m) → Is (non (entry P D m k == NONE)) → Is (maps_to P D m k (entry P D m k))
+  maps_to_lem : k < size D (source P m) → Is (non (entry P D m k =? NONE)) → Is (maps_to P D m k (entry P D m k))
   unfolding maps_to low past
   maps_to_lem lt some =
       pair (less! lt) (pair (most! (le_refl _)) (less! (rw (pick-false _ _ _ (fails some)) (omega arith))))
 
   -- an entry that fits is none in a partial map only, or leads inside
-  entry_inside : Is (entry_fits P D m k) → Is (non (entry P D m k == NONE)) → entry P D m k < size D (target P m)
+  entry_inside : Is (entry_fits P D m k) → Is (non (entry P D m k =? NONE)) → entry P D m k < size D (target P m)
   unfolding entry_fits
   entry_inside fits some = less (rw (pick-false _ _ _ (fails some)) at fits)
 
-  entry_some : Is (entry_fits P D m k) → totality P m ≡ 1 → Is (non (entry P D m k == NONE))
+  entry_some : Is (entry_fits P D m k) → totality P m ≡ 1 → Is (non (entry P D m k =? NONE))
   unfolding entry_fits
   entry_some fits total =
-      elim (split (entry P D m k == NONE)) [
+      elim (split (entry P D m k =? NONE)) [
         | inl none ↦ absurd (omega (arith, same (rw (pick_true _ _ _ none) at fits)))
         | inr some ↦ some
       ]

@@ -5,7 +5,7 @@ use mathlib.Core.Path.{◌≡◌, refl, sym, ap, ◌∙◌}
 use mathlib.Core.Logic.{◌⊎◌, inl, inr}
 use mathlib.Core.Bool.{Bool}
 use native.Mathlib.Omega.{arith}
-use Rattle.model.specs.Tests.{Is, ◌and◌, ◌or◌, non, ◌==◌, every}
+use Rattle.model.specs.Tests.{Is, ◌and◌, ◌or◌, non, ◌=?◌, every}
 use Rattle.model.specs.Bytes.{Bytes}
 use Rattle.model.specs.Outcomes.{require, ◌then◌, scan, conclude}
 use Rattle.model.specs.Layout.{Plan, plan_of, layout_check, statement_count, statement_kind, statement_c}
@@ -58,7 +58,7 @@ module _ (P : Plan) (same : ℕ → ℕ → Bool) where
       every (statement_count P) (λ s. non (access_of_loop P f s) or
       non (writes P s and uncentered P s) and every (statement_count P) (λ t. non (access_of_loop P f t) or
       non (same s t
-      and (reduces P s and uncentered P s and non (reduces P t and uncentered P t and statement_c P s == statement_c P t)
+      and (reduces P s and uncentered P s and non (reduces P t and uncentered P t and statement_c P s =? statement_c P t)
       or reads P s and uncentered P s and (writes P t or reduces P t)))))
 
   abbrev pub loops_check_by : Outcome
@@ -86,7 +86,7 @@ by_target_verdict p = refl
 
 -- the former verdict goes by region alone
 abbrev pub same_region : Plan → ℕ → ℕ → Bool
-same_region P s t = operand_region P s == operand_region P t
+same_region P s t = operand_region P s =? operand_region P t
 
 abbrev pub former_verdict : Bytes → Answer
 former_verdict = verdict_by same_region

@@ -6,7 +6,7 @@ use mathlib.Core.Bool.{Bool}
 use native.Mathlib.Nat.{div-add-mod'}
 use native.Mathlib.Omega.{arith}
 use lib.ListN.{length}
-use Rattle.model.specs.Tests.{Is, ◌and◌, ◌==◌, ◌≤?◌}
+use Rattle.model.specs.Tests.{Is, ◌and◌, ◌=?◌, ◌≤?◌}
 use Rattle.model.specs.Bytes.{Bytes, byte, u16, boundary, body}
 use Rattle.model.specs.Layout.{Plan, shapes, shape_of, section_check, layout_check, region_count, fields, source, target, totality, supplied_region, supplied_flags}
 use Rattle.model.specs.PlainPlan.{WellFormed, SectionLength, regions, maps, supplied, statements, nodes, assignments, steps}
@@ -21,7 +21,7 @@ use Rattle.model.proofs.Outcomes.{then_cases, require_pass, required, require_re
 
 -- the length test of the section that stands after n others
 unfoldable pub measured : ℕ → ℕ → Bool
-measured n bytes = bytes % (shape_of n).width == 0 and (shape_of n).fewest ≤? bytes / (shape_of n).width and bytes / (shape_of n).width ≤? (shape_of n).most
+measured n bytes = bytes % (shape_of n).width =? 0 and (shape_of n).fewest ≤? bytes / (shape_of n).width and bytes / (shape_of n).width ≤? (shape_of n).most
 
 abbrev Shaped : ℕ → Type 0
 Shaped n = (bytes : ℕ) → Is (measured n bytes) → SectionLength (suc n) bytes
@@ -51,7 +51,7 @@ by_shape = (
   ),
 )
   where
-    parts : {a b c d e f : ℕ} → Is (a == b and c ≤? d and e ≤? f) → (a ≡ b) × (c ≤ d) × (e ≤ f)
+    parts : {a b c d e f : ℕ} → Is (a =? b and c ≤? d and e ≤? f) → (a ≡ b) × (c ≤ d) × (e ≤ f)
     parts h = (same (both h).0, most (both (both h).1).0, most (both (both h).1).1)
 
 of_shape : {n bytes : ℕ} → SectionLength n bytes → Is (measured (n - 1) bytes)

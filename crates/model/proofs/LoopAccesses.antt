@@ -4,7 +4,7 @@ use Prim.Native.Nat.{ℕ, suc, ◌<◌}
 use mathlib.Core.Path.{◌≡◌, refl, sym, ◌∙◌}
 use mathlib.Core.Logic.{◌⊎◌, inl, inr, ◌↔◌}
 use native.Mathlib.Omega.{arith}
-use Rattle.model.specs.Tests.{Is, ◌and◌, ◌or◌, non, ◌==◌, every}
+use Rattle.model.specs.Tests.{Is, ◌and◌, ◌or◌, non, ◌=?◌, every}
 use Rattle.model.specs.Layout.{Plan, statement_count, statement_kind, statement_c}
 use Rattle.model.specs.Statements.{accesses, operand_definition, operand_region, access_field, centered}
 use Rattle.model.specs.Parallel.{reads, writes, reduces, uncentered, access_of_loop, same_target, conflicts, parallelizable}
@@ -120,7 +120,7 @@ module _ (P : Plan) where
           (statement_kind P t ≡ 6) × (Centered P e → ⊥) × (statement_c P t ≡ statement_c P s)
       unfolding conflicts
       lone_reduction {s} {t} a b k n target =
-          elim (split (reduces P t and uncentered P t and statement_c P s == statement_c P t)) [
+          elim (split (reduces P t and uncentered P t and statement_c P s =? statement_c P t)) [
             | inl y ↦ ((reduces_is P t).0 (both y).0, (uncentered_in b).0 (both (both y).1).0, sym (same (both (both y).1).1))
             | inr m ↦ absurd (conflict_free a b (pair target (one (inl (pair ((reduces_is P s).1 k) (pair ((uncentered_in a).1 n) m))))))
           ]
@@ -156,7 +156,7 @@ module _ (P : Plan) where
         target = target_in a (same (both (both c).0).0) (same (both (both c).0).1)
 
         by_reduction :
-            Is (reduces P s and uncentered P s and non (reduces P t and uncentered P t and statement_c P s == statement_c P t)) → ⊥
+            Is (reduces P s and uncentered P s and non (reduces P t and uncentered P t and statement_c P s =? statement_c P t)) → ⊥
         by_reduction h =
             let u = both (both h).1 in
             let n =

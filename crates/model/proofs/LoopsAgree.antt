@@ -5,7 +5,7 @@ use mathlib.Core.Path.{◌≡◌, refl, sym, ◌∙◌}
 use mathlib.Core.Logic.{◌⊎◌, inl, inr, ◌↔◌}
 use mathlib.Core.Bool.{Bool, true, false}
 use native.Mathlib.Omega.{arith}
-use Rattle.model.specs.Tests.{Is, ◌and◌, ◌or◌, non, ◌==◌, pick}
+use Rattle.model.specs.Tests.{Is, ◌and◌, ◌or◌, non, ◌=?◌, pick}
 use Rattle.model.specs.Layout.{Plan, statement_kind}
 use Rattle.model.specs.Statements.{opens, defines, loop_before, loop, variables, definition}
 use Rattle.model.specs.LoopRelations.{InLoop, Defining, Variable, loop_variable, next_variable, Resolves, WithinVariableLimit}
@@ -30,7 +30,7 @@ module _ (P : Plan) where
   unfolding definition
   left s v n m = pick-false _ _ _ (fails (refuted untouched))
     where
-      untouched : Is (opens P s and v == 0 or defines P s and v == variables P s) → ⊥
+      untouched : Is (opens P s and v =? 0 or defines P s and v =? variables P s) → ⊥
       untouched h = elim (either h) [ inl a ↦ n (both a).0 | inr b ↦ m (both b).0 (same (both b).1) ]
 
   pub turn : (s : ℕ) → Turn s

@@ -8,7 +8,7 @@ use native.Mathlib.Omega.{arith}
 use lib.ListN.{get_or-eq_default}
 use lib.Dec.{ltb}
 use borrow.Author.Tests.{ltb-true, ltb-false}
-use Rattle.model.specs.Tests.{Is, ◌and◌, ◌==◌, ◌<?◌}
+use Rattle.model.specs.Tests.{Is, ◌and◌, ◌=?◌, ◌<?◌}
 use Rattle.model.specs.Recursion.{below}
 use Rattle.model.specs.Partitions.{Partition, empty, union, intersection, difference, image, preimage}
 use Rattle.model.specs.Layout.{Plan, region_count, map_count, supplied_count, node_count, source, target, supplied_region, node_kind, node_a, node_b}
@@ -94,7 +94,7 @@ module _ (P : Plan) (D : DataSet) (F : Facts P) (j : ℕ) (lt : j < node_count P
 
   two_operands :
       (operator : Partition → Partition → Partition) →
-      Is (node_a P j <? j and node_b P j <? j) → Is (node_region P (node_a P j) == node_region P (node_b P j)) →
+      Is (node_a P j <? j and node_b P j <? j) → Is (node_region P (node_a P j) =? node_region P (node_b P j)) →
       member P D j ≡ operator (below empty j (member P D) (node_a P j)) (below empty j (member P D) (node_b P j)) →
       node_region P j ≡ below 0 j (node_region P) (node_a P j) →
       TwoOperands P D j operator
@@ -114,7 +114,7 @@ module _ (P : Plan) (D : DataSet) (F : Facts P) (j : ℕ) (lt : j < node_count P
 
   one_operand :
       (end other : ℕ → ℕ) (operator : Partition → Partition) →
-      Is (node_a P j <? j and node_b P j <? map_count P) → Is (node_region P (node_a P j) == end (node_b P j)) →
+      Is (node_a P j <? j and node_b P j <? map_count P) → Is (node_region P (node_a P j) =? end (node_b P j)) →
       member P D j ≡ operator (below empty j (member P D) (node_a P j)) →
       node_region P j ≡ other (node_b P j) →
       OneOperand P D j end other operator

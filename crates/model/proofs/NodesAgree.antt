@@ -3,7 +3,7 @@ use Prim.Native.Nat.{ℕ, zero, suc, ◌≤◌, ◌<◌}
 use mathlib.Core.Path.{◌≡◌, refl, sym, ◌∙◌}
 use mathlib.Core.Logic.{inl, inr, ◌↔◌}
 use native.Mathlib.Omega.{arith}
-use Rattle.model.specs.Tests.{Is, ◌and◌, ◌==◌, ◌<?◌}
+use Rattle.model.specs.Tests.{Is, ◌and◌, ◌=?◌, ◌<?◌}
 use Rattle.model.specs.Recursion.{below}
 use Rattle.model.specs.Layout.{Plan, node_kind, node_a, node_b, node_unused}
 use Rattle.model.specs.Nodes.{node_kind_of, node_kind_at, node_formed_by, node_formed, node_region_by, node_region_step, node_region, node_agrees_by, node_agrees, same_node, duplicate_node}
@@ -109,7 +109,7 @@ module _ (P : Plan) where
   agree_operands : (j : ℕ) → Is (node_agrees P j) → 2 ≤ node_kind P j → node_kind P j ≤ 4 → node_region P (node_a P j) ≡ node_region P (node_b P j)
   unfolding node_kind_of node_agrees_by
   agree_operands j h l m =
-      same (three (λ k. Is (node_agrees_by P (node_kind_of k) j) → Is (node_region P (node_a P j) == node_region P (node_b P j)))
+      same (three (λ k. Is (node_agrees_by P (node_kind_of k) j) → Is (node_region P (node_a P j) =? node_region P (node_b P j)))
       (λ t. t) (λ t. t) (λ t. t) (node_kind P j) l m (agree_by j (node_kind P j) refl h))
 
   agrees_plainly : (j : ℕ) → ((i : ℕ) → i ≤ j → NodeFormed P i) → Is (node_agrees P j) → NodeAgrees P j
@@ -134,7 +134,7 @@ module _ (P : Plan) where
   test_agrees j (equal_formed e a b u) g = rw e
   test_agrees j (operands_formed l h a b u) g =
       let o = g.one_region l h in
-      let t : Is (node_region P (node_a P j) == node_region P (node_b P j)) = same! (region_is o.1 ∙ sym (region_is o.2)) in
+      let t : Is (node_region P (node_a P j) =? node_region P (node_b P j)) = same! (region_is o.1 ∙ sym (region_is o.2)) in
       three (λ k. Is (node_agrees_by P (node_kind_of k) j)) t t t (node_kind P j) l h
   test_agrees j (map_formed (inl e) a b u) g = rw e (same! (region_is (g.image_source e)))
   test_agrees j (map_formed (inr e) a b u) g = rw e (same! (region_is (g.preimage_target e)))

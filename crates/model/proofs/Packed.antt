@@ -7,7 +7,7 @@ use mathlib.Core.Logic.{inl, inr}
 use mathlib.Core.Bool.{Bool, false}
 use native.Mathlib.Nat.{mul-le-mul_right, mul-le-mul}
 use native.Mathlib.Omega.{arith}
-use Rattle.model.specs.Tests.{◌==◌}
+use Rattle.model.specs.Tests.{◌=?◌}
 use Rattle.model.specs.Answers.{refusal_report, report, written_report, charge_report}
 use Rattle.model.specs.Bytes.{Bytes, u16, boundary}
 use Rattle.model.specs.Outcomes.{require, ◌then◌, scan, conclude, conclude_writing, conclude_charge}
@@ -79,7 +79,7 @@ counts_read s n t ls ln lt =
     pick_true _ _ _ (same! refl) ∙ rw (bits.0, bits.1, bits.2)
 
 -- a refusal is not under number 0
-not_zero : (r : Refusal) → ((refusal_report r).number == 0) ≡ false
+not_zero : (r : Refusal) → ((refusal_report r).number =? 0) ≡ false
 not_zero r = let some = (number_in_table r).0 in fails (refuted (λ h. let z = same h in omega arith))
 
 place_read : (r : Refusal) → answer_read (refusal_tag r) ≡ refusal_report r

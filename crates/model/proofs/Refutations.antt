@@ -7,7 +7,7 @@ use mathlib.Core.List.{List}
 use mathlib.Core.Bool.{false}
 use native.Mathlib.Omega.{arith}
 use lib.ListN.{set}
-use Rattle.model.specs.Tests.{Is, ◌and◌, ◌or◌, non, ◌==◌, ◌<?◌, any, pick}
+use Rattle.model.specs.Tests.{Is, ◌and◌, ◌or◌, non, ◌=?◌, ◌<?◌, any, pick}
 use Rattle.model.specs.Bytes.{boundary, body}
 use Rattle.model.specs.Recursion.{below, levels, course}
 use Rattle.model.specs.Layout.{Plan, plan_of, source}
@@ -54,7 +54,7 @@ record Known : Type 0 where
 
 known : Known
 unfolding
-    boundary body ◌and◌ ◌or◌ non ◌==◌ any pick below levels course
+    boundary body ◌and◌ ◌or◌ non ◌=?◌ any pick below levels course
     kind_of opens_loop defines_variable access_of is_access kind opens defines accesses loop_before variables definition operand_by operand
     operand_definition centered_by centered is_reduce reduces uncentered access_of_loop reduces_through_pointer
 known =
@@ -142,7 +142,7 @@ pub record Refutable : Type 0 where
 
 pub refutable : Refutable
 unfolding
-    boundary body ◌and◌ ◌or◌ ◌==◌ ◌<?◌ pick below levels course subregion holds bit symbol has_symbol symbol_region
+    boundary body ◌and◌ ◌or◌ ◌=?◌ ◌<?◌ pick below levels course subregion holds bit symbol has_symbol symbol_region
     kind_of opens_loop defines_variable access_of is_access kind opens defines accesses variables definition operand_by operand
     operand_definition region_by variable_region size entry_start entry
 refutable =

@@ -4,7 +4,7 @@ use mathlib.Core.Path.{◌≡◌, refl, sym, ◌∙◌}
 use mathlib.Core.Logic.{◌⊎◌, inl, inr, ◌↔◌}
 use mathlib.Core.Bool.{Bool, true, false}
 use native.Mathlib.Omega.{arith}
-use Rattle.model.specs.Tests.{Is, ◌and◌, ◌or◌, every, ◌==◌, ◌≤?◌}
+use Rattle.model.specs.Tests.{Is, ◌and◌, ◌or◌, every, ◌=?◌, ◌≤?◌}
 use Rattle.model.specs.Layout.{Plan, node_count, node_kind, node_a, node_b, step_lemma, step_x, step_y, step_p, step_q}
 use Rattle.model.specs.Lemmas.{lemmas, lemma_row, in_use, is_subset, is_disjoint, is_complete, concludes_subset, concludes_disjoint, concludes_complete, operand_of, is_node, is_private_part, private_rest, private_preimage, private_operand, private_map, licences, licence, step_formed, step_licensed}
 use Rattle.model.specs.PlainPlan.{ConcludesSubset, ConcludesDisjoint, ConcludesComplete, UsesY, UsesP, UsesQ, StepFormed, NodeIs, PrivatePart, Licence}
@@ -27,24 +27,24 @@ agreed false false h = refl
 table :
     Is (every 21 (λ k.
     agree (is_subset (lemma_row (suc k)).conclusion) (5 ≤? suc k and suc k ≤? 14)
-    and agree (is_disjoint (lemma_row (suc k)).conclusion) (suc k == 1 or suc k == 3 or 15 ≤? suc k and suc k ≤? 18 or suc k == 21)
-    and agree (is_complete (lemma_row (suc k)).conclusion) (suc k == 2 or suc k == 4 or suc k == 19 or suc k == 20)
+    and agree (is_disjoint (lemma_row (suc k)).conclusion) (suc k =? 1 or suc k =? 3 or 15 ≤? suc k and suc k ≤? 18 or suc k =? 21)
+    and agree (is_complete (lemma_row (suc k)).conclusion) (suc k =? 2 or suc k =? 4 or suc k =? 19 or suc k =? 20)
     and agree (lemma_row (suc k)).x true
-    and agree (lemma_row (suc k)).y (5 ≤? suc k and suc k ≤? 14 or suc k == 15 or suc k == 19)
-    and agree (lemma_row (suc k)).p (suc k == 6 or suc k == 8 or suc k == 10 or 12 ≤? suc k and suc k ≤? 21)
-    and agree (lemma_row (suc k)).q (suc k == 6 or suc k == 8 or suc k == 10 or suc k == 15 or suc k == 19)))
-unfolding every agree ◌and◌ ◌or◌ ◌==◌ ◌≤?◌ lemma_row lemmas is_subset is_disjoint is_complete
+    and agree (lemma_row (suc k)).y (5 ≤? suc k and suc k ≤? 14 or suc k =? 15 or suc k =? 19)
+    and agree (lemma_row (suc k)).p (suc k =? 6 or suc k =? 8 or suc k =? 10 or 12 ≤? suc k and suc k ≤? 21)
+    and agree (lemma_row (suc k)).q (suc k =? 6 or suc k =? 8 or suc k =? 10 or suc k =? 15 or suc k =? 19)))
+unfolding every agree ◌and◌ ◌or◌ ◌=?◌ ◌≤?◌ lemma_row lemmas is_subset is_disjoint is_complete
 table = refl
 
 -- the table's row of a known lemma
 pub record Rows (l : ℕ) : Type 0 where
   pub subset : is_subset (lemma_row l).conclusion ≡ (5 ≤? l and l ≤? 14)
-  pub disjoint : is_disjoint (lemma_row l).conclusion ≡ (l == 1 or l == 3 or 15 ≤? l and l ≤? 18 or l == 21)
-  pub complete : is_complete (lemma_row l).conclusion ≡ (l == 2 or l == 4 or l == 19 or l == 20)
+  pub disjoint : is_disjoint (lemma_row l).conclusion ≡ (l =? 1 or l =? 3 or 15 ≤? l and l ≤? 18 or l =? 21)
+  pub complete : is_complete (lemma_row l).conclusion ≡ (l =? 2 or l =? 4 or l =? 19 or l =? 20)
   pub x : (lemma_row l).x ≡ true
-  pub y : (lemma_row l).y ≡ (5 ≤? l and l ≤? 14 or l == 15 or l == 19)
-  pub p : (lemma_row l).p ≡ (l == 6 or l == 8 or l == 10 or 12 ≤? l and l ≤? 21)
-  pub q : (lemma_row l).q ≡ (l == 6 or l == 8 or l == 10 or l == 15 or l == 19)
+  pub y : (lemma_row l).y ≡ (5 ≤? l and l ≤? 14 or l =? 15 or l =? 19)
+  pub p : (lemma_row l).p ≡ (l =? 6 or l =? 8 or l =? 10 or 12 ≤? l and l ≤? 21)
+  pub q : (lemma_row l).q ≡ (l =? 6 or l =? 8 or l =? 10 or l =? 15 or l =? 19)
 
 pub rows : (l : ℕ) → 1 ≤ l → l ≤ 21 → Rows l
 rows zero a b = absurd (omega arith)
@@ -76,16 +76,16 @@ or_else f g = (
   λ w. one (elim w [ inl u ↦ inl (f.1 u) | inr v ↦ inr (g.1 v) ]),
 )
 
-number : {a b : ℕ} → Is (a == b) ↔ (a ≡ b)
+number : {a b : ℕ} → Is (a =? b) ↔ (a ≡ b)
 number = (same, same!)
 
-uses_y : (l : ℕ) → Is (5 ≤? l and l ≤? 14 or l == 15 or l == 19) ↔ UsesY l
+uses_y : (l : ℕ) → Is (5 ≤? l and l ≤? 14 or l =? 15 or l =? 19) ↔ UsesY l
 uses_y l = or_else between (or_else number number)
 
-uses_p : (l : ℕ) → Is (l == 6 or l == 8 or l == 10 or 12 ≤? l and l ≤? 21) ↔ UsesP l
+uses_p : (l : ℕ) → Is (l =? 6 or l =? 8 or l =? 10 or 12 ≤? l and l ≤? 21) ↔ UsesP l
 uses_p l = or_else number (or_else number (or_else number between))
 
-uses_q : (l : ℕ) → Is (l == 6 or l == 8 or l == 10 or l == 15 or l == 19) ↔ UsesQ l
+uses_q : (l : ℕ) → Is (l =? 6 or l =? 8 or l =? 10 or l =? 15 or l =? 19) ↔ UsesQ l
 uses_q l = or_else number (or_else number (or_else number (or_else number number)))
 
 module _ (P : Plan) where
@@ -202,7 +202,7 @@ module _ (P : Plan) where
         preimage_is = node_is.0 (both h).1;
       }
     where
-      of_kind : {j kind : ℕ} → Is (node_kind P j == kind) → NodeIs P j kind (node_a P j) (node_b P j)
+      of_kind : {j kind : ℕ} → Is (node_kind P j =? kind) → NodeIs P j kind (node_a P j) (node_b P j)
       of_kind h = record { kind_is = same h; a_is = refl; b_is = refl }
 
   private_test : (x operand : ℕ) → PrivatePart P x operand → Is (is_private_part P x) × (private_operand P x ≡ operand)

@@ -4,7 +4,7 @@ use Prim.Native.Nat.{ℕ, zero, suc, ◌≤◌, ◌<◌}
 use mathlib.Core.Path.{◌≡◌, refl, sym, ap, ◌∙◌}
 use mathlib.Core.Logic.{◌⊎◌, inl, inr, ◌↔◌}
 use native.Mathlib.Omega.{arith}
-use Rattle.model.specs.Tests.{Is, ◌and◌, non, ◌==◌}
+use Rattle.model.specs.Tests.{Is, ◌and◌, non, ◌=?◌}
 use Rattle.model.specs.Recursion.{below}
 use Rattle.model.specs.Layout.{Plan, node_count, statement_count, statement_kind, statement_a, node_kind, node_a, node_b, assigned}
 use Rattle.model.specs.Statements.{kind_of, kind, operand_definition, variable_region}
@@ -102,7 +102,7 @@ module _ (P : Plan) where
       → (node_kind P (image_node P a m) ≡ 5) × (node_a P (image_node P a m) ≡ a) × (node_b P (image_node P a m) ≡ m)
   unfolding image_node
   image_found a m lt =
-      let h = first_found (λ j. node_kind P j == 5 and node_a P j == a and node_b P j == m) 0 (node_count P) (omega arith) in
+      let h = first_found (λ j. node_kind P j =? 5 and node_a P j =? a and node_b P j =? m) 0 (node_count P) (omega arith) in
       (same (both h).0, same (both (both h).1).0, same (both (both h).1).1)
 
   image_most : (x : ℕ) → x < node_count P → node_kind P x ≡ 5 → image_node P (node_a P x) (node_b P x) ≤ x

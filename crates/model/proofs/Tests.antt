@@ -7,7 +7,7 @@ use native.Mathlib.Numerals.{add-one}
 use native.Mathlib.Omega.{arith}
 use lib.Dec.{eqb}
 use borrow.Author.Tests.{ltb-true, ltb-false, lt-ltb, leb-true, le-leb, eqb-true, eqb-false, eq-eqb}
-use Rattle.model.specs.Tests.{Is, ◌and◌, ◌or◌, non, ◌==◌, ◌<?◌, ◌≤?◌, any, every, pick, first}
+use Rattle.model.specs.Tests.{Is, ◌and◌, ◌or◌, non, ◌=?◌, ◌<?◌, ◌≤?◌, any, every, pick, first}
 
 pub falsum {ℓ} : {A : Type ℓ} → false ≡ true → A
 falsum h = absurd (mathlib.Core.Bool.false≢true h)
@@ -74,12 +74,12 @@ pub implies : {a b : Bool} → (Is a → Is b) → Is (non a or b)
 implies {a} {b} f = elim (split a) [ inl y ↦ one (inr (f y)) | inr n ↦ one (inl n) ]
 
 -- numbers
-pub same : {a b : ℕ} → Is (a == b) → a ≡ b
-unfolding ◌==◌
+pub same : {a b : ℕ} → Is (a =? b) → a ≡ b
+unfolding ◌=?◌
 same {a} {b} h = eqb-true a b h
 
-pub same! : {a b : ℕ} → a ≡ b → Is (a == b)
-unfolding ◌==◌
+pub same! : {a b : ℕ} → a ≡ b → Is (a =? b)
+unfolding ◌=?◌
 same! {a} {b} h = eq-eqb a b h
 
 pub less : {a b : ℕ} → Is (a <? b) → a < b
@@ -103,10 +103,10 @@ unfolding ◌≤?◌
 most! {a} {b} h = le-leb a b h
 
 -- one of two equations
-pub which : {a b c d : ℕ} → Is (a == b or c == d) → (a ≡ b) ⊎ (c ≡ d)
+pub which : {a b c d : ℕ} → Is (a =? b or c =? d) → (a ≡ b) ⊎ (c ≡ d)
 which h = elim (either h) [ inl u ↦ inl (same u) | inr v ↦ inr (same v) ]
 
-pub which! : {a b c d : ℕ} → (a ≡ b) ⊎ (c ≡ d) → Is (a == b or c == d)
+pub which! : {a b c d : ℕ} → (a ≡ b) ⊎ (c ≡ d) → Is (a =? b or c =? d)
 which! (inl u) = one (inl (same! u))
 which! (inr v) = one (inr (same! v))
 

@@ -13,34 +13,34 @@ use lib.Arith.{lt-one, digits_mod, digits_div, digits_lt}
 use lib.Pow.{shr-shr}
 use lib.ListN.{length, get_or, set, drop, length-set}
 use lib.Seq.{get_or-set_same, get_or-set_other, drop-set-lt, ext_get_or}
-use Rattle.model.specs.Tests.{◌==◌}
+use Rattle.model.specs.Tests.{◌=?◌}
 use Rattle.model.specs.Words.{bit, holds, digit, from_bits, word, store}
 
 -- one bit at a time
-pub bit_first : (w : ℕ) → bit w 0 ≡ (w % 2 == 1)
+pub bit_first : (w : ℕ) → bit w 0 ≡ (w % 2 =? 1)
 unfolding bit
-bit_first w = ap (λ (x : ℕ). x % 2 == 1) (div-one w)
+bit_first w = ap (λ (x : ℕ). x % 2 =? 1) (div-one w)
 
 pub bit_next : (w b : ℕ) → bit w (suc b) ≡ bit (w / 2) b
 unfolding bit
-bit_next w b = ap (λ (x : ℕ). x % 2 == 1) (ap (λ (k : ℕ). w / 2 ^ k) (sym (one-add b)) ∙ sym (shr-shr w 1 b))
+bit_next w b = ap (λ (x : ℕ). x % 2 =? 1) (ap (λ (k : ℕ). w / 2 ^ k) (sym (one-add b)) ∙ sym (shr-shr w 1 b))
 
 pub bit_zero : (b : ℕ) → bit 0 b ≡ false
-unfolding bit ◌==◌
-bit_zero b = ap (λ (x : ℕ). x % 2 == 1) (zero-div (2 ^ b))
+unfolding bit ◌=?◌
+bit_zero b = ap (λ (x : ℕ). x % 2 =? 1) (zero-div (2 ^ b))
 
 -- a digit and the test of it
 pub digit_less : (t : Bool) → digit t < 2
 digit_less true = omega arith
 digit_less false = omega arith
 
-pub test_digit : (t : Bool) → (digit t == 1) ≡ t
-unfolding ◌==◌
+pub test_digit : (t : Bool) → (digit t =? 1) ≡ t
+unfolding ◌=?◌
 test_digit true = refl
 test_digit false = refl
 
-pub digit_test : (x : ℕ) → x < 2 → digit (x == 1) ≡ x
-unfolding ◌==◌
+pub digit_test : (x : ℕ) → x < 2 → digit (x =? 1) ≡ x
+unfolding ◌=?◌
 digit_test zero h = refl
 digit_test (suc zero) h = refl
 digit_test (suc (suc x)) h = absurd (omega arith)
@@ -57,7 +57,7 @@ number_rest n bits = digits_mod (from_bits n (λ b. bits (suc b))) (digit_less (
 -- bit b of a number of bits is `bits b`
 pub bit_number : (n : ℕ) (bits : ℕ → Bool) (b : ℕ) → b < n → bit (from_bits n bits) b ≡ bits b
 bit_number zero bits b h = absurd (omega arith)
-bit_number (suc n) bits zero h = bit_first (from_bits (suc n) bits) ∙ ap (λ (x : ℕ). x == 1) (number_rest n bits) ∙ test_digit (bits 0)
+bit_number (suc n) bits zero h = bit_first (from_bits (suc n) bits) ∙ ap (λ (x : ℕ). x =? 1) (number_rest n bits) ∙ test_digit (bits 0)
 bit_number (suc n) bits (suc b) h =
     bit_next (from_bits (suc n) bits) b ∙ ap (λ (x : ℕ). bit x b) (number_half n bits) ∙ bit_number n (λ b. bits (suc b)) b (omega arith)
 

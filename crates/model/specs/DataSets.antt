@@ -1,6 +1,6 @@
 -- "Data sets": the four sections' bodies, what they hold, and the refusals 12 to 14.
 use Rattle.std.specs.Prelude.{ℕ, zero, suc, ◌+◌, ◌-◌, ◌*◌, ◌/◌, ◌%◌, ◌^◌, Bool, get_or, length}
-use Rattle.model.specs.Tests.{◌and◌, ◌or◌, non, any, every, pick, ◌==◌, ◌<?◌, ◌≤?◌}
+use Rattle.model.specs.Tests.{◌and◌, ◌or◌, non, any, every, pick, ◌=?◌, ◌<?◌, ◌≤?◌}
 use Rattle.model.specs.Bytes.{Bytes, byte, u16, boundary, body}
 use Rattle.model.specs.Outcomes.{require, ◌then◌, scan}
 use Rattle.model.specs.Partitions.{Partition, Map}
@@ -52,7 +52,7 @@ module _ (P : Plan) (D : DataSet) where
   low m k = entry m k
 
   unfoldable pub past : ℕ → ℕ → ℕ
-  past m k = pick (entry m k == NONE) (entry m k) (entry m k + 1)
+  past m k = pick (entry m k =? NONE) (entry m k) (entry m k + 1)
 
   -- map m, over its source's elements
   unfoldable pub maps_to : ℕ → Map
@@ -69,7 +69,7 @@ module _ (P : Plan) (D : DataSet) where
 
   -- "one bit per element from element 0, highest bit first"
   unfoldable pub supplied_bit : ℕ → Partition
-  supplied_bit k i e = byte D.members (member_start k + i * piece_bytes k + e / 8) / 2 ^ (7 - e % 8) % 2 == 1
+  supplied_bit k i e = byte D.members (member_start k + i * piece_bytes k + e / 8) / 2 ^ (7 - e % 8) % 2 =? 1
 
   -- supplied partition k, over the pieces and its region's elements
   unfoldable pub supplied : ℕ → Partition
@@ -77,7 +77,7 @@ module _ (P : Plan) (D : DataSet) where
 
   -- Dangling: "entry not none and at or above the target's size, or none in a total map"
   unfoldable pub entry_fits : ℕ → ℕ → Bool
-  entry_fits m k = pick (entry m k == NONE) (totality P m == 0) (entry m k <? size D (target P m))
+  entry_fits m k = pick (entry m k =? NONE) (totality P m =? 0) (entry m k <? size D (target P m))
 
   -- map m, entry by entry: the place is "map × 512 + element"
   unfoldable pub entries_check : ℕ → Outcome
@@ -101,20 +101,20 @@ module _ (P : Plan) (D : DataSet) where
   -- the declared flags, 1 disjoint, 2 complete, 3 both, and the pad bits
   unfoldable pub declarations_hold : ℕ → Bool
   declarations_hold k =
-      (non (supplied_flags P k == 1 or supplied_flags P k == 3) or supplied_disjoint k)
-      and (non (supplied_flags P k == 2 or supplied_flags P k == 3) or supplied_complete k)
+      (non (supplied_flags P k =? 1 or supplied_flags P k =? 3) or supplied_disjoint k)
+      and (non (supplied_flags P k =? 2 or supplied_flags P k =? 3) or supplied_complete k)
       and pad_bits_clear k
 
 -- Misframed: "data set empty, edition, lengths, N or sizes wrong, or bytes left over"
 unfoldable pub well_framed : Plan → Bytes → Bool
 well_framed P d =
-    1 ≤? length d and byte d 0 == 1
+    1 ≤? length d and byte d 0 =? 1
     and every 4 (λ n. boundary d n + 2 ≤? length d and boundary d (suc n) ≤? length d)
-    and length d == boundary d 4
-    and length (body d 0) == 1 and 1 ≤? pieces (data_of d) and pieces (data_of d) ≤? 16
-    and length (body d 1) == 2 * region_count P and every (region_count P) (λ r. size (data_of d) r ≤? 512)
-    and length (body d 2) == entry_start P (data_of d) (map_count P)
-    and length (body d 3) == member_start P (data_of d) (supplied_count P)
+    and length d =? boundary d 4
+    and length (body d 0) =? 1 and 1 ≤? pieces (data_of d) and pieces (data_of d) ≤? 16
+    and length (body d 1) =? 2 * region_count P and every (region_count P) (λ r. size (data_of d) r ≤? 512)
+    and length (body d 2) =? entry_start P (data_of d) (map_count P)
+    and length (body d 3) =? member_start P (data_of d) (supplied_count P)
 
 -- "A data set fits a plan when it draws none of 12 to 14"
 unfoldable pub data_check : Plan → Bytes → Outcome

@@ -1,6 +1,6 @@
 -- "The plan's bytes": the edition, the seven sections, and the checks of lengths and counts.
 use Rattle.std.specs.Prelude.{ℕ, suc, ◌+◌, ◌*◌, ◌/◌, ◌%◌, List, [], ◌∷◌, get_or, length}
-use Rattle.model.specs.Tests.{◌and◌, ◌==◌, ◌≤?◌}
+use Rattle.model.specs.Tests.{◌and◌, ◌=?◌, ◌≤?◌}
 use Rattle.model.specs.Bytes.{Bytes, byte, u16, boundary, body}
 use Rattle.model.specs.Outcomes.{require, ◌then◌, scan}
 use Rattle.model.specs.declared.Outcome.{Outcome}
@@ -56,7 +56,7 @@ unfoldable pub section_check : Bytes → ℕ → Outcome
 section_check p n =
     require (boundary p n + 2 ≤? length p and boundary p (suc n) ≤? length p) (Truncated (suc n))
     then require
-    (u16 p (boundary p n) % (shape_of n).width == 0
+    (u16 p (boundary p n) % (shape_of n).width =? 0
     and (shape_of n).fewest ≤? u16 p (boundary p n) / (shape_of n).width
     and u16 p (boundary p n) / (shape_of n).width ≤? (shape_of n).most)
     (InvalidLength (suc n))
@@ -65,7 +65,7 @@ section_check p n =
 unfoldable pub layout_check : Bytes → Outcome
 layout_check p =
     require (1 ≤? length p) (Truncated 0)
-    then require (byte p 0 == 1) UnknownEdition
+    then require (byte p 0 =? 1) UnknownEdition
     then scan (section_check p) 0 SECTIONS
     then require (length p ≤? boundary p SECTIONS) (TrailingBytes (boundary p SECTIONS))
 

@@ -1,6 +1,6 @@
 -- "Needs": symbols and their nodes, bounds of variables, and what the steps must conclude.
 use Rattle.std.specs.Prelude.{ℕ, zero, suc, ◌+◌, ◌*◌, Bool}
-use Rattle.model.specs.Tests.{◌and◌, ◌or◌, non, any, first, pick, ◌==◌, ◌<?◌}
+use Rattle.model.specs.Tests.{◌and◌, ◌or◌, non, any, first, pick, ◌=?◌, ◌<?◌}
 use Rattle.model.specs.Recursion.{course}
 use Rattle.model.specs.Outcomes.{require, ◌then◌}
 use Rattle.model.specs.Layout.{Plan, node_count, node_kind, node_a, node_b, assigned, assignment_count, statement_a, statement_count, step_count}
@@ -37,17 +37,17 @@ module _ (P : Plan) where
 
   -- Uneven: "assignments not one per symbol"
   unfoldable pub assignment_count_check : Outcome
-  assignment_count_check = require (assignment_count P == symbol_count) (AssignmentCount symbol_count)
+  assignment_count_check = require (assignment_count P =? symbol_count) (AssignmentCount symbol_count)
 
   -- the record of section 6 for the symbol of statement s; symbols in statement order are records in order
   unfoldable pub assignment_check : ℕ → Outcome
   assignment_check s =
       require (non (has_symbol s) or symbol_node s <? node_count P) (InvalidRecord (6 * 256 + symbol s))
-      then require (non (has_symbol s) or node_region P (symbol_node s) == symbol_region s) (RegionMismatch (6 * 256 + symbol s))
+      then require (non (has_symbol s) or node_region P (symbol_node s) =? symbol_region s) (RegionMismatch (6 * 256 + symbol s))
 
   -- the image node of node a under map m; the number of nodes where none is listed
   unfoldable pub image_node : ℕ → ℕ → ℕ
-  image_node a m = first (λ j. node_kind P j == IMAGE and node_a P j == a and node_b P j == m) 0 (node_count P)
+  image_node a m = first (λ j. node_kind P j =? IMAGE and node_a P j =? a and node_b P j =? m) 0 (node_count P)
 
   -- "Variable 0's bound is its FOR's node; LOAD and CALL take the image node of the earlier variable's bound; COPY keeps it"
   unfoldable pub bound_by : StatementKind → ℕ → (ℕ → ℕ) → ℕ

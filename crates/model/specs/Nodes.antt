@@ -1,6 +1,6 @@
 -- "Expressions": the nodes of section 5, their regions, and the checks of their records.
 use Rattle.std.specs.Prelude.{ℕ, ◌+◌, ◌*◌, [], ◌∷◌, Bool, true, false, get_or}
-use Rattle.model.specs.Tests.{◌and◌, non, any, ◌==◌, ◌<?◌}
+use Rattle.model.specs.Tests.{◌and◌, non, any, ◌=?◌, ◌<?◌}
 use Rattle.model.specs.Recursion.{course}
 use Rattle.model.specs.Outcomes.{require, ◌then◌}
 use Rattle.model.specs.Layout.{Plan, region_count, map_count, supplied_count, source, target, supplied_region, node_kind, node_a, node_b, node_unused}
@@ -50,8 +50,8 @@ module _ (P : Plan) where
 
   -- Stray: an unknown kind, an "undefined, own or later number", an unused b that is not 0
   unfoldable pub node_formed_by : NodeKind → ℕ → Bool
-  node_formed_by Supplied j = node_a P j <? supplied_count P and node_b P j == 0
-  node_formed_by Equal j = node_a P j <? region_count P and node_b P j == 0
+  node_formed_by Supplied j = node_a P j <? supplied_count P and node_b P j =? 0
+  node_formed_by Equal j = node_a P j <? region_count P and node_b P j =? 0
   node_formed_by Union j = operands_earlier j
   node_formed_by Intersection j = operands_earlier j
   node_formed_by Difference j = operands_earlier j
@@ -61,7 +61,7 @@ module _ (P : Plan) where
 
   -- a record of section 5 by its kind; its last byte is unused
   unfoldable pub node_formed : ℕ → Bool
-  node_formed j = node_unused P j == 0 and node_formed_by (node_kind_at j) j
+  node_formed j = node_unused P j =? 0 and node_formed_by (node_kind_at j) j
 
   -- the region of a node, from those of the nodes before it: "Kinds 2 to 4 need one region. Image .. has its target; preimage the reverse"
   unfoldable pub node_region_by : NodeKind → ℕ → (ℕ → ℕ) → ℕ
@@ -84,7 +84,7 @@ module _ (P : Plan) where
 
   -- "Kinds 2 to 4 need one region"
   abbrev pub operands_of_one_region : ℕ → Bool
-  operands_of_one_region j = node_region (node_a P j) == node_region (node_b P j)
+  operands_of_one_region j = node_region (node_a P j) =? node_region (node_b P j)
 
   -- Mismatch: "Image needs a of the map's source ..; preimage the reverse"
   unfoldable pub node_agrees_by : NodeKind → ℕ → Bool
@@ -93,8 +93,8 @@ module _ (P : Plan) where
   node_agrees_by Union j = operands_of_one_region j
   node_agrees_by Intersection j = operands_of_one_region j
   node_agrees_by Difference j = operands_of_one_region j
-  node_agrees_by Image j = node_region (node_a P j) == source P (node_b P j)
-  node_agrees_by Preimage j = node_region (node_a P j) == target P (node_b P j)
+  node_agrees_by Image j = node_region (node_a P j) =? source P (node_b P j)
+  node_agrees_by Preimage j = node_region (node_a P j) =? target P (node_b P j)
   node_agrees_by Unknown j = false
 
   -- the regions of node j and of its operands agree
@@ -104,7 +104,7 @@ module _ (P : Plan) where
   -- Twin: "No two records are equal"
   unfoldable pub same_node : ℕ → ℕ → Bool
   same_node j k =
-      node_kind P k == node_kind P j and node_a P k == node_a P j and node_b P k == node_b P j and node_unused P k == node_unused P j
+      node_kind P k =? node_kind P j and node_a P k =? node_a P j and node_b P k =? node_b P j and node_unused P k =? node_unused P j
 
   -- node j "equals an earlier one"
   unfoldable pub duplicate_node : ℕ → Bool

@@ -1,6 +1,6 @@
 -- An answer as one number of 64 bits, for callers in C and Rust, and the way they read it.
 use Rattle.std.specs.Prelude.{ℕ, ◌+◌, ◌*◌, ◌/◌, ◌%◌, ◌^◌}
-use Rattle.model.specs.Tests.{pick, ◌==◌}
+use Rattle.model.specs.Tests.{pick, ◌=?◌}
 use Rattle.model.specs.Answers.{refusal, refusal_report, report, written_report, charge_report}
 use Rattle.model.specs.declared.Refusal.{Refusal}
 use Rattle.model.specs.declared.Answer.{Answer}
@@ -56,7 +56,7 @@ answer_tag (Refused r) = refusal_tag r
 -- what a caller makes of them: under number 0 the counts, under any other a refusal at the place
 unfoldable pub answer_read : TaggedValue → Report
 answer_read t =
-    pick (t.number == 0)
+    pick (t.number =? 0)
     (report (Accepted (t.value % 2 ^ 8) (t.value / 2 ^ 8 % 2 ^ 8) (t.value / 2 ^ 16 % 2 ^ 8)))
     (refusal t.number t.value)
 
@@ -79,7 +79,7 @@ written_tag (written.Refused r) = refusal_tag r
 -- what a caller makes of them: under number 0 the length, under any other a refusal at the place
 unfoldable pub written_read : TaggedValue → WrittenReport
 written_read t =
-    pick (t.number == 0) (written_report (written.Length t.value)) (record { number = t.number; place = t.value; length = 0 })
+    pick (t.number =? 0) (written_report (written.Length t.value)) (record { number = t.number; place = t.value; length = 0 })
 
 -- how answers of entry points that write a list are packed
 abbrev pub written_packing : Packing Written WrittenReport
@@ -93,7 +93,7 @@ charge_tag (charge.Refused r) = refusal_tag r
 -- what a caller makes of them: under number 0 the charge, under any other a refusal at the place
 unfoldable pub charge_read : TaggedValue → ChargeReport
 charge_read t =
-    pick (t.number == 0)
+    pick (t.number =? 0)
     (charge_report (charge.Charged (t.value % 2 ^ 16) (t.value / 2 ^ 16 % 2 ^ 24) (t.value / 2 ^ 40 % 2 ^ 16)))
     (record { number = t.number; place = t.value; count = 0; cents = 0; remainder = 0 })
 

@@ -1,6 +1,6 @@
 -- "A loop is parallelizable when all three hold".
 use Rattle.std.specs.Prelude.{ℕ, Bool, true, false}
-use Rattle.model.specs.Tests.{◌and◌, ◌or◌, non, ◌==◌, any, every}
+use Rattle.model.specs.Tests.{◌and◌, ◌or◌, non, ◌=?◌, any, every}
 use Rattle.model.specs.Outcomes.{require}
 use Rattle.model.specs.Layout.{Plan, statement_count, statement_c}
 use Rattle.model.specs.Statements.{kind, access_of, opens, accesses, loop, operand_definition, operand_region, access_field, centered}
@@ -49,18 +49,18 @@ module _ (P : Plan) where
 
   -- access s stands in the loop of FOR f
   unfoldable pub access_of_loop : ℕ → ℕ → Bool
-  access_of_loop f s = accesses P s and loop P s == f
+  access_of_loop f s = accesses P s and loop P s =? f
 
   -- the two accesses are of one target: "region and field"
   unfoldable pub same_target : ℕ → ℕ → Bool
-  same_target s t = operand_region P s == operand_region P t and access_field P s == access_field P t
+  same_target s t = operand_region P s =? operand_region P t and access_field P s =? access_field P t
 
   -- a target "with an uncentered REDUCE has no other access in the loop but uncentered REDUCEs of the same operator";
   -- one "with an uncentered read has no WRITE or REDUCE in the loop"
   unfoldable pub conflicts : ℕ → ℕ → Bool
   conflicts s t =
       same_target s t
-      and (reduces s and uncentered s and non (reduces t and uncentered t and statement_c P s == statement_c P t)
+      and (reduces s and uncentered s and non (reduces t and uncentered t and statement_c P s =? statement_c P t)
       or reads s and uncentered s and (writes t or reduces t))
 
   -- "each WRITE is centered", and no two accesses of the loop conflict

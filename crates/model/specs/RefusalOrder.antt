@@ -1,7 +1,7 @@
 -- "Order: 1 for empty, 2; per section 1 then 4; 3; records by section, at each 5, 6, 7; 8 after section 4; 9 before section 6; at each
 -- step 5, then 10; 11 by symbol; 12; 13; 14; 15. The first met is given." 16 is "after 14, before 15", 17 "after 14", the lowest place first.
 use Rattle.std.specs.Prelude.{ℕ, ◌*◌, ◌/◌, ◌%◌, ◌<◌, ◌≡◌, List, [], ◌∷◌, get_or}
-use Rattle.model.specs.Tests.{pick, ◌==◌}
+use Rattle.model.specs.Tests.{pick, ◌=?◌}
 
 -- when a refusal is met: by stages; in a stage item by item (section, record, symbol, ..); at an item check by check
 pub record Turn : Type 0 where
@@ -20,7 +20,7 @@ turns =
     -- no refusal has number 0
     (λ place. turn_at 0 0 0)
     -- "1 for empty"; "per section 1"
-    ∷ (λ place. pick (place == 0) (turn_at 1 0 0) (turn_at 3 place 0))
+    ∷ (λ place. pick (place =? 0) (turn_at 1 0 0) (turn_at 3 place 0))
     -- "2"
     ∷ (λ place. turn_at 2 0 0)
     -- "3"

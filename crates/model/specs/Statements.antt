@@ -1,6 +1,6 @@
 -- "Loops": the kinds of statement, the variables of a loop, and the checks of section 4's records.
 use Rattle.std.specs.Prelude.{ℕ, zero, suc, ◌+◌, ◌*◌, [], ◌∷◌, Bool, true, false, get_or}
-use Rattle.model.specs.Tests.{◌and◌, ◌or◌, ◌==◌, ◌<?◌, pick}
+use Rattle.model.specs.Tests.{◌and◌, ◌or◌, ◌=?◌, ◌<?◌, pick}
 use Rattle.model.specs.Recursion.{course}
 use Rattle.model.specs.Outcomes.{require, ◌then◌}
 use Rattle.model.specs.Layout.{Plan, region_count, map_count, fields, source, target, statement_kind, statement_a, statement_b, statement_c}
@@ -88,7 +88,7 @@ module _ (P : Plan) where
   -- the statement that defines variable v of the loop, as seen from statement s
   unfoldable pub definition : ℕ → ℕ → ℕ
   definition zero v = 0
-  definition (suc s) v = pick (opens s and v == 0 or defines s and v == variables s) s (definition s v)
+  definition (suc s) v = pick (opens s and v =? 0 or defines s and v =? variables s) s (definition s v)
 
   -- the number of the variable that a statement works on: "LOAD (a = map, b = variable, ..)", "COPY (a = variable)", ..
   unfoldable pub operand_by : StatementKind → ℕ → ℕ
@@ -161,18 +161,18 @@ module _ (P : Plan) where
   -- Stray: an unknown kind, an undefined number, a field or operator out of range, an unused byte not 0, a statement before any FOR
   -- (its loop has no variables), "At most 16 variables per loop; a defining record beyond that"
   unfoldable pub statement_formed_by : StatementKind → ℕ → Bool
-  statement_formed_by For s = statement_a P s <? region_count P and statement_b P s == 0 and statement_c P s == 0
+  statement_formed_by For s = statement_a P s <? region_count P and statement_b P s =? 0 and statement_c P s =? 0
   statement_formed_by Load s =
       statement_a P s <? map_count P and statement_b P s <? variables s and variables s <? 16
       and statement_c P s <? fields P (operand_region s)
   statement_formed_by Call s =
-      statement_a P s <? map_count P and statement_b P s <? variables s and variables s <? 16 and statement_c P s == 0
+      statement_a P s <? map_count P and statement_b P s <? variables s and variables s <? 16 and statement_c P s =? 0
   statement_formed_by Copy s =
-      statement_a P s <? variables s and variables s <? 16 and statement_b P s == 0 and statement_c P s == 0
+      statement_a P s <? variables s and variables s <? 16 and statement_b P s =? 0 and statement_c P s =? 0
   statement_formed_by Read s =
-      statement_a P s <? variables s and statement_b P s <? fields P (operand_region s) and statement_c P s == 0
+      statement_a P s <? variables s and statement_b P s <? fields P (operand_region s) and statement_c P s =? 0
   statement_formed_by Write s =
-      statement_a P s <? variables s and statement_b P s <? fields P (operand_region s) and statement_c P s == 0
+      statement_a P s <? variables s and statement_b P s <? fields P (operand_region s) and statement_c P s =? 0
   statement_formed_by Reduce s =
       statement_a P s <? variables s and statement_b P s <? fields P (operand_region s) and statement_c P s <? 4
   statement_formed_by Unknown s = false
@@ -184,8 +184,8 @@ module _ (P : Plan) where
   -- Mismatch: "LOAD and CALL need a variable of the map's source"
   unfoldable pub statement_agrees_by : StatementKind → ℕ → Bool
   statement_agrees_by For s = true
-  statement_agrees_by Load s = operand_region s == source P (statement_a P s)
-  statement_agrees_by Call s = operand_region s == source P (statement_a P s)
+  statement_agrees_by Load s = operand_region s =? source P (statement_a P s)
+  statement_agrees_by Call s = operand_region s =? source P (statement_a P s)
   statement_agrees_by Copy s = true
   statement_agrees_by Read s = true
   statement_agrees_by Write s = true

@@ -1,7 +1,7 @@
 -- Tests that compute. A test is a Bool, and `Is` says that it passes. The laws are in proofs/Tests.
 use Rattle.std.specs.Prelude.{ℕ, zero, suc, ◌≡◌, Bool, true, false, not, ◌&&◌, ◌||◌, eqb, ltb, leb}
 
-infix 50 ◌==◌
+infix 50 ◌=?◌
 infix 50 ◌<?◌
 infix 50 ◌≤?◌
 infixr 40 ◌and◌
@@ -23,8 +23,8 @@ unfoldable pub non : Bool → Bool
 non a = not a
 
 -- equal
-unfoldable pub ◌==◌ : ℕ → ℕ → Bool
-a == b = eqb a b
+unfoldable pub ◌=?◌ : ℕ → ℕ → Bool
+a =? b = eqb a b
 
 -- less
 unfoldable pub ◌<?◌ : ℕ → ℕ → Bool

@@ -1,6 +1,6 @@
 -- "Transfer charge": the elements that the tasks must fetch, counted, and what they cost.
 use Rattle.std.specs.Prelude.{ℕ, ◌+◌, ◌*◌, ◌/◌, ◌%◌, Bool, List}
-use Rattle.model.specs.Tests.{◌and◌, non, ◌==◌, ◌<?◌, ◌≤?◌}
+use Rattle.model.specs.Tests.{◌and◌, non, ◌=?◌, ◌<?◌, ◌≤?◌}
 use Rattle.model.specs.Bytes.{Bytes}
 use Rattle.model.specs.Outcomes.{require, ◌then◌, conclude_charge}
 use Rattle.model.specs.Layout.{Plan, plan_of, node_count}
@@ -40,7 +40,7 @@ transfer_ones words N accessed owned = sum N (λ i. ones_lacking words ((accesse
 unfoldable pub transfer_check : Plan → Transfer → Outcome
 transfer_check P t =
     require (t.accessed <? node_count P and t.owned <? node_count P) (InvalidCharge 1)
-    then require (node_region P t.accessed == node_region P t.owned) (InvalidCharge 2)
+    then require (node_region P t.accessed =? node_region P t.owned) (InvalidCharge 2)
     then require (t.price ≤? MOST_PRICE) (InvalidCharge 3)
 
 -- "count times price, divided by 1,000: whole cents, and the exact remainder"

@@ -1,12 +1,12 @@
 -- Sets of elements as 64-bit words: "element e is bit e mod 64 (value 2 to that power) of word e div 64".
 use Rattle.std.specs.Prelude.{ℕ, zero, suc, ◌+◌, ◌*◌, ◌/◌, ◌%◌, ◌^◌, Bool, true, false, List, get_or, set}
-use Rattle.model.specs.Tests.{◌==◌}
+use Rattle.model.specs.Tests.{◌=?◌}
 use Rattle.model.specs.declared.Written.{Written}
 use Rattle.model.specs.declared.Written.TheVariants.{Length, Refused}
 
 -- bit b of the number w
 unfoldable pub bit : ℕ → ℕ → Bool
-bit w b = w / 2 ^ b % 2 == 1
+bit w b = w / 2 ^ b % 2 =? 1
 
 -- whether the set whose words stand from `at` on holds element e
 unfoldable pub holds : List ℕ → ℕ → ℕ → Bool

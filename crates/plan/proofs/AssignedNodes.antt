@@ -5,7 +5,7 @@ use mathlib.Core.List.{List}
 use mathlib.Core.Bool.{Bool, true, false}
 use native.Mathlib.Omega.{arith}
 use lib.ListN.{get_or}
-use Rattle.model.specs.Tests.{Is, ◌or◌, non, ◌==◌, ◌<?◌}
+use Rattle.model.specs.Tests.{Is, ◌or◌, non, ◌=?◌, ◌<?◌}
 use Rattle.model.specs.Bytes.{Bytes}
 use Rattle.model.specs.Outcomes.{require, ◌then◌}
 use Rattle.model.specs.Layout.{Plan, statement_count, node_count}
@@ -52,7 +52,7 @@ module _ (P : Plan) (s : ℕ) where
   pub assigned_check : has_symbol P s ≡ true → {node_regions operands regions : List ℕ} → AssignmentTables P node_regions operands regions
       → {node nodes region at place : ℕ} → node ≡ symbol_node P s → nodes ≡ node_count P → at ≡ get_or node_regions node 0
       → region ≡ symbol_region P s → place ≡ 6 * 256 + symbol P s
-      → require (node <? nodes) (InvalidRecord place) then require (at == region) (RegionMismatch place) ≡ assignment_check P s
+      → require (node <? nodes) (InvalidRecord place) then require (at =? region) (RegionMismatch place) ≡ assignment_check P s
   unfolding assignment_check non ◌or◌
   assigned_check h tables n c a r p =
       rw (h, a, n, c, r, p) (then_same (symbol_node P s <? node_count P) _ (λ lt. rw (tables.node_regions_are (symbol_node P s) (less lt))))

@@ -7,7 +7,7 @@ use mathlib.Core.Bool.{Bool, true, false, and-true}
 use mathlib.Core.List.{List}
 use lib.ListN.{get_or, length, set, length-set}
 use borrow.Author.Tests.{ne_eqb, le-ltb}
-use Rattle.model.specs.Tests.{Is, ◌and◌, ◌or◌, non, any, first, pick, ◌<?◌, ◌==◌}
+use Rattle.model.specs.Tests.{Is, ◌and◌, ◌or◌, non, any, first, pick, ◌<?◌, ◌=?◌}
 use Rattle.model.specs.Layout.{Plan, statement_count, node_count, step_count}
 use Rattle.model.specs.Statements.{kind, opens_loop, access_of, is_access, opens, accesses}
 use Rattle.model.specs.Parallel.{reduces_through_pointer}
@@ -76,7 +76,7 @@ module _ (needs symbols : List ℕ) (count : ℕ) (conclusions : List ℕ) (step
       pub settling_unmet : (get_or needs i 0 ≡ NO_NEED → ⊥) → steps ≤ concluding_step conclusions steps (get_or needs i 0)
           → {r : SettledNeeds} {n : ℕ} → r.outcome ≡ Refuse (UnmetNeed n) → n ≡ get_or symbols (i / 2) 0
           → NeedsSettled needs symbols count conclusions steps r
-      unfolding settled require ◌or◌ ◌==◌ ◌<?◌
+      unfolding settled require ◌or◌ ◌=?◌ ◌<?◌
       settling_unmet asks none refused e =
           record {
             outcome = refused ∙ scanning_refused past.scanning inside (rw (ne_eqb _ _ asks, le-ltb _ _ none)) (ap (λ n. Refuse (UnmetNeed n)) (sym e));
@@ -120,28 +120,28 @@ no_loop k access = go (opens_loop k) refl
 
 module _ (P : Plan) (conclusions : List ℕ) (known : ConclusionKeys P (step_count P) conclusions) where
   -- the step that concludes a need, and whether a need is met by what the steps conclude
-  concluding : (need : ℕ) {f : ℕ → Bool} → ((t : ℕ) → t < step_count P → (get_or conclusions t 0 == need) ≡ f t)
+  concluding : (need : ℕ) {f : ℕ → Bool} → ((t : ℕ) → t < step_count P → (get_or conclusions t 0 =? need) ≡ f t)
       → concluding_step conclusions (step_count P) need ≡ first f 0 (step_count P)
   concluding need {f} h = first_same _ f 0 (step_count P) (λ t a lt. h t (omega arith))
 
   unfoldable is_met : ℕ → Bool
-  is_met need = need == NO_NEED or concluding_step conclusions (step_count P) need <? step_count P
+  is_met need = need =? NO_NEED or concluding_step conclusions (step_count P) need <? step_count P
 
-  asked : (need : ℕ) {f : ℕ → Bool} → need < 196608 → ((t : ℕ) → t < step_count P → (get_or conclusions t 0 == need) ≡ f t)
+  asked : (need : ℕ) {f : ℕ → Bool} → need < 196608 → ((t : ℕ) → t < step_count P → (get_or conclusions t 0 =? need) ≡ f t)
       → is_met need ≡ any (step_count P) f
-  unfolding is_met ◌==◌ ◌or◌
+  unfolding is_met ◌=?◌ ◌or◌
   asked need {f} small h = rw (ne_eqb need NO_NEED (λ e. omega arith), concluding need h, first_passes)
 
   nothing_asked : is_met NO_NEED ≡ true
-  unfolding is_met ◌==◌ ◌or◌
+  unfolding is_met ◌=?◌ ◌or◌
   nothing_asked = refl
 
   unlisted : is_met UNLISTED_BOUND ≡ false
-  unfolding is_met ◌==◌ ◌or◌
+  unfolding is_met ◌=?◌ ◌or◌
   unlisted =
       rw (
         first_passes,
-        none_of (step_count P) (λ t. get_or conclusions t 0 == UNLISTED_BOUND)
+        none_of (step_count P) (λ t. get_or conclusions t 0 =? UNLISTED_BOUND)
             (λ t lt. ne_eqb (get_or conclusions t 0) UNLISTED_BOUND (λ e. omega (arith, (known t lt).small))),
       )
 
@@ -205,7 +205,7 @@ module _ (P : Plan) (conclusions : List ℕ) (known : ConclusionKeys P (step_cou
       -- the step found for a need that is a conclusion's key
       module _ (pass : r.outcome ≡ Pass) (s : ℕ) (inside : s < statement_count P) where
         step_of : (i : ℕ) {need : ℕ} {f : ℕ → Bool} → i < statement_count P * 2 → get_or needs i 0 ≡ need → need < 196608
-            → ((t : ℕ) → t < step_count P → (get_or conclusions t 0 == need) ≡ f t) → get_or r.steps i 0 ≡ first f 0 (step_count P)
+            → ((t : ℕ) → t < step_count P → (get_or conclusions t 0 =? need) ≡ f t) → get_or r.steps i 0 ≡ first f 0 (step_count P)
         step_of i {need} lt e small h = told.first_steps pass i lt (λ none. omega (arith, e, none)) ∙ rw e (concluding need h)
 
         bound_listed : Is (accesses P s) → operand_bound P s < node_count P

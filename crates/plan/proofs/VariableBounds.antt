@@ -6,7 +6,7 @@ use mathlib.Core.Logic.{◌⊎◌, ⊎_elim}
 use mathlib.Core.List.{List}
 use native.Mathlib.Omega.{arith}
 use lib.ListN.{get_or}
-use Rattle.model.specs.Tests.{◌and◌, ◌==◌}
+use Rattle.model.specs.Tests.{◌and◌, ◌=?◌}
 use Rattle.model.specs.Layout.{Plan, node_kind, node_a, node_b}
 use Rattle.model.specs.Nodes.{IMAGE}
 use Rattle.model.specs.Bytes.{Bytes}
@@ -57,10 +57,10 @@ module _ {P : Plan} {statements assignments : Bytes} {keys : List ℕ} {nodes : 
 
 -- node j is the image of a node under a map
 abbrev pub is_image : Plan → ℕ → ℕ → ℕ → Bool
-is_image P node map j = node_kind P j == IMAGE and node_a P j == node and node_b P j == map
+is_image P node map j = node_kind P j =? IMAGE and node_a P j =? node and node_b P j =? map
 
 pub image_told : (P : Plan) {keys : List ℕ} {nodes node map wanted : ℕ} {b : Bool} (j : ℕ) → NodesKeyed P keys nodes
-    → ImageSought nodes node map → j < nodes → wanted ≡ node_key IMAGE node map → (get_or keys j 0 == wanted) ≡ b → is_image P node map j ≡ b
+    → ImageSought nodes node map → j < nodes → wanted ≡ node_key IMAGE node map → (get_or keys j 0 =? wanted) ≡ b → is_image P node map j ≡ b
 image_told P j known sought lt e h =
     let count = known.count_is in
     sym (known.keys_are j (omega arith) IMAGE _ _ (omega arith) sought.small_node sought.small_map) ∙ rw (← e) h

@@ -1,6 +1,6 @@
 -- "Needs" as the checker settles them: two of each statement, listed in order by key, and the steps searched for each.
 use Rattle.std.specs.Prelude.{ℕ, ◌+◌, ◌*◌, ◌/◌, ◌≤◌, ◌<◌, ◌≡◌, Bool, false, List, get_or, length}
-use Rattle.model.specs.Tests.{Is, ◌and◌, ◌or◌, first, pick, ◌==◌, ◌<?◌}
+use Rattle.model.specs.Tests.{Is, ◌and◌, ◌or◌, first, pick, ◌=?◌, ◌<?◌}
 use Rattle.model.specs.Bytes.{Bytes}
 use Rattle.model.specs.Outcomes.{require, scan}
 use Rattle.model.specs.Layout.{Plan, statement_count, node_count, step_count}
@@ -86,12 +86,12 @@ pub record NeedsListed (P : Plan) (n : ℕ) (needs symbols : List ℕ) : Type 0 
 
 -- "the search is left at the first that concludes it": the first step whose conclusion is the need; the number of steps where none's is
 abbrev pub concluding_step : List ℕ → ℕ → ℕ → ℕ
-concluding_step conclusions steps need = first (λ t. get_or conclusions t 0 == need) 0 steps
+concluding_step conclusions steps need = first (λ t. get_or conclusions t 0 =? need) 0 steps
 
 -- need i of those listed: "a need no step concludes" is refused at its symbol
 unfoldable pub settled : List ℕ → List ℕ → List ℕ → ℕ → ℕ → Outcome
 settled needs symbols conclusions steps i =
-    require (get_or needs i 0 == NO_NEED or concluding_step conclusions steps (get_or needs i 0) <? steps) (UnmetNeed (get_or symbols (i / 2) 0))
+    require (get_or needs i 0 =? NO_NEED or concluding_step conclusions steps (get_or needs i 0) <? steps) (UnmetNeed (get_or symbols (i / 2) 0))
 
 -- the outcome of the needs listed and, after a pass, the first step that concludes each that asks for something
 pub record NeedsSettled (needs symbols : List ℕ) (count : ℕ) (conclusions : List ℕ) (steps : ℕ) (r : SettledNeeds) : Type 0 where

@@ -7,7 +7,7 @@ use native.Mathlib.Omega.{arith}
 use lib.Arith.{digits_mod}
 use lib.Bits.{bit_and, bit_or, and_step, or_step, and_shr, or_shr, shifted_half, shifted_even}
 use lib.Pow.{shr-shr, shl-shr, pow_pos, shl_exact, field, mod-mod-pow, low, high}
-use Rattle.model.specs.Tests.{Is, ◌and◌, ◌or◌, non, ◌==◌, ◌<?◌}
+use Rattle.model.specs.Tests.{Is, ◌and◌, ◌or◌, non, ◌=?◌, ◌<?◌}
 use Rattle.model.specs.Words.{bit}
 use Rattle.model.proofs.Tests.{same, same!, less, less!, same_truth}
 use Rattle.model.proofs.Words.{bit_first, bit_next, bit_zero}
@@ -53,8 +53,8 @@ and_swap false true = refl
 and_swap false false = refl
 
 -- a test of two digits at once
-least_test : (x y : ℕ) → x < 2 → y < 2 → (min x y == 1) ≡ (x == 1 and y == 1)
-unfolding ◌==◌ ◌and◌
+least_test : (x y : ℕ) → x < 2 → y < 2 → (min x y =? 1) ≡ (x =? 1 and y =? 1)
+unfolding ◌=?◌ ◌and◌
 least_test zero zero h k = refl
 least_test zero (suc zero) h k = refl
 least_test (suc zero) zero h k = refl
@@ -63,8 +63,8 @@ least_test (suc (suc x)) y h k = absurd (omega arith)
 least_test zero (suc (suc y)) h k = absurd (omega arith)
 least_test (suc zero) (suc (suc y)) h k = absurd (omega arith)
 
-most_test : (x y : ℕ) → x < 2 → y < 2 → (max x y == 1) ≡ (x == 1 or y == 1)
-unfolding ◌==◌ ◌or◌
+most_test : (x y : ℕ) → x < 2 → y < 2 → (max x y =? 1) ≡ (x =? 1 or y =? 1)
+unfolding ◌=?◌ ◌or◌
 most_test zero zero h k = refl
 most_test zero (suc zero) h k = refl
 most_test (suc zero) zero h k = refl
@@ -82,18 +82,18 @@ rest_or a b = ap (λ (x : ℕ). x % 2) (or_step a b) ∙ digits_mod (bit_or (a /
 pub bit-bit_and : (a b e : ℕ) → bit (bit_and a b) e ≡ (bit a e and bit b e)
 unfolding bit
 bit-bit_and a b e =
-    ap (λ (x : ℕ). x % 2 == 1) (and_shr a b e) ∙ ap (λ (x : ℕ). x == 1) (rest_and (a / 2 ^ e) (b / 2 ^ e))
+    ap (λ (x : ℕ). x % 2 =? 1) (and_shr a b e) ∙ ap (λ (x : ℕ). x =? 1) (rest_and (a / 2 ^ e) (b / 2 ^ e))
     ∙ least_test (a / 2 ^ e % 2) (b / 2 ^ e % 2) (omega arith) (omega arith)
 
 pub bit-bit_or : (a b e : ℕ) → bit (bit_or a b) e ≡ (bit a e or bit b e)
 unfolding bit
 bit-bit_or a b e =
-    ap (λ (x : ℕ). x % 2 == 1) (or_shr a b e) ∙ ap (λ (x : ℕ). x == 1) (rest_or (a / 2 ^ e) (b / 2 ^ e))
+    ap (λ (x : ℕ). x % 2 =? 1) (or_shr a b e) ∙ ap (λ (x : ℕ). x =? 1) (rest_or (a / 2 ^ e) (b / 2 ^ e))
     ∙ most_test (a / 2 ^ e % 2) (b / 2 ^ e % 2) (omega arith) (omega arith)
 
 -- the complement in n bits
-flip_test : (x : ℕ) → x < 2 → (1 - x == 1) ≡ non (x == 1)
-unfolding ◌==◌ non
+flip_test : (x : ℕ) → x < 2 → (1 - x =? 1) ≡ non (x =? 1)
+unfolding ◌=?◌ non
 flip_test zero h = refl
 flip_test (suc zero) h = refl
 flip_test (suc (suc x)) h = absurd (omega arith)
@@ -108,7 +108,7 @@ pub bit_not : (n w e : ℕ) → w < 2 ^ n → e < n → bit ((2 ^ n - 1) - w) e 
 bit_not zero w e h l = absurd (omega arith)
 bit_not (suc n) w zero h l =
     bit_first ((2 ^ suc n - 1) - w)
-    ∙ ap (λ (x : ℕ). x == 1) (ap (λ (m : ℕ). ((m - 1) - w) % 2) (pow-suc 2 n) ∙ flip_rest (2 ^ n) w (omega (arith, pow-suc 2 n)))
+    ∙ ap (λ (x : ℕ). x =? 1) (ap (λ (m : ℕ). ((m - 1) - w) % 2) (pow-suc 2 n) ∙ flip_rest (2 ^ n) w (omega (arith, pow-suc 2 n)))
     ∙ flip_test (w % 2) (omega arith) ∙ ap non (sym (bit_first w))
 bit_not (suc n) w (suc e) h l =
     bit_next ((2 ^ suc n - 1) - w) e
@@ -118,7 +118,7 @@ bit_not (suc n) w (suc e) h l =
 -- shifts
 pub bit_down : (w m e : ℕ) → bit (w / 2 ^ m) e ≡ bit w (m + e)
 unfolding bit
-bit_down w m e = ap (λ (x : ℕ). x % 2 == 1) (shr-shr w m e)
+bit_down w m e = ap (λ (x : ℕ). x % 2 =? 1) (shr-shr w m e)
 
 -- the lowest n bits
 pub bit_low : (n w e : ℕ) → e < n → bit (w % 2 ^ n) e ≡ bit w e
@@ -126,9 +126,9 @@ unfolding bit
 bit_low n w e h =
     let split : suc (n - suc e) + e ≡ n = omega arith in
     let half : suc (n - suc e) ≡ n - suc e + 1 = omega arith in
-    ap (λ (x : ℕ). x % 2 == 1)
+    ap (λ (x : ℕ). x % 2 =? 1)
     (ap (λ (m : ℕ). w % 2 ^ m / 2 ^ e) (sym split) ∙ field w (suc (n - suc e)) e)
-    ∙ ap (λ (x : ℕ). x == 1) (ap (λ (m : ℕ). w / 2 ^ e % 2 ^ m % 2) half ∙ mod-mod-pow (w / 2 ^ e) (n - suc e) 1)
+    ∙ ap (λ (x : ℕ). x =? 1) (ap (λ (m : ℕ). w / 2 ^ e % 2 ^ m % 2) half ∙ mod-mod-pow (w / 2 ^ e) (n - suc e) 1)
 
 -- a number above n bits and another in them
 pub bit_lower : (h n l e : ℕ) → l < 2 ^ n → e < n → bit (h * 2 ^ n + l) e ≡ bit l e
@@ -139,9 +139,9 @@ bit_upper h n l e small = sym (bit_down (h * 2 ^ n + l) n e) ∙ ap (λ (x : ℕ
 
 -- up by m, below m
 pub bit_up_low : (w m e : ℕ) → e < m → bit (w * 2 ^ m) e ≡ false
-unfolding ◌==◌
+unfolding ◌=?◌
 bit_up_low w zero e h = absurd (omega arith)
-bit_up_low w (suc m) zero h = bit_first (w * 2 ^ suc m) ∙ ap (λ (x : ℕ). x == 1) (shifted_even w m)
+bit_up_low w (suc m) zero h = bit_first (w * 2 ^ suc m) ∙ ap (λ (x : ℕ). x =? 1) (shifted_even w m)
 bit_up_low w (suc m) (suc e) h =
     bit_next (w * 2 ^ suc m) e ∙ ap (λ (x : ℕ). bit x e) (shifted_half w m) ∙ bit_up_low w m e (omega arith)
 
@@ -150,12 +150,12 @@ pub bit_up : (w m e : ℕ) → bit (w * 2 ^ m) (m + e) ≡ bit w e
 bit_up w m e = sym (bit_down (w * 2 ^ m) m e) ∙ ap (λ (x : ℕ). bit x e) (shl-shr w m)
 
 -- one bit set, and the lowest m bits set
-pub bit_power : (m b : ℕ) → bit (2 ^ m) b ≡ (b == m)
+pub bit_power : (m b : ℕ) → bit (2 ^ m) b ≡ (b =? m)
 bit_power zero zero = bit_first 1 ∙ same! refl ∙ sym (same! refl)
 bit_power zero (suc b) = bit_next 1 b ∙ bit_zero b ∙ sym (refute (λ h. let q = same h in omega arith))
 bit_power (suc m) zero =
     let even : 2 ^ suc m % 2 ≡ 0 = omega (arith, pow-suc 2 m) in
-    bit_first (2 ^ suc m) ∙ ap (λ (x : ℕ). x == 1) even ∙ refute (λ h. let q = same h in omega arith) ∙ sym (refute (λ h. let q = same h in omega arith))
+    bit_first (2 ^ suc m) ∙ ap (λ (x : ℕ). x =? 1) even ∙ refute (λ h. let q = same h in omega arith) ∙ sym (refute (λ h. let q = same h in omega arith))
 bit_power (suc m) (suc b) =
     let half : 2 ^ suc m / 2 ≡ 2 ^ m = omega (arith, pow-suc 2 m) in
     bit_next (2 ^ suc m) b ∙ ap (λ (x : ℕ). bit x b) half ∙ bit_power m b
@@ -165,7 +165,7 @@ pub bit_ones : (m b : ℕ) → bit (2 ^ m - 1) b ≡ (b <? m)
 bit_ones zero b = bit_zero b ∙ sym (refute (λ h. let q = less h in omega arith))
 bit_ones (suc m) zero =
     let odd : (2 ^ suc m - 1) % 2 ≡ 1 = omega (arith, pow-suc 2 m, pow_pos m) in
-    bit_first (2 ^ suc m - 1) ∙ ap (λ (x : ℕ). x == 1) odd ∙ same! refl ∙ sym (less! (omega arith))
+    bit_first (2 ^ suc m - 1) ∙ ap (λ (x : ℕ). x =? 1) odd ∙ same! refl ∙ sym (less! (omega arith))
 bit_ones (suc m) (suc b) =
     let half : (2 ^ suc m - 1) / 2 ≡ 2 ^ m - 1 = omega (arith, pow-suc 2 m, pow_pos m) in
     bit_next (2 ^ suc m - 1) b ∙ ap (λ (x : ℕ). bit x b) half ∙ bit_ones m b

@@ -8,7 +8,7 @@ use native.Mathlib.Nat.{le_refl}
 use native.Mathlib.Omega.{arith}
 use lib.Bits.{bit_and, and_le_l}
 use lib.ListN.{get_or}
-use Rattle.model.specs.Tests.{Is, ◌and◌, first, ◌==◌, ◌<?◌}
+use Rattle.model.specs.Tests.{Is, ◌and◌, first, ◌=?◌, ◌<?◌}
 use Rattle.model.specs.Bytes.{Bytes, u16}
 use Rattle.model.specs.Words.{bit, holds}
 use Rattle.model.proofs.Tests.{falsum, both, pair, refuted, split, same, same!, less, not_less, first_is, first_found, first_most}
@@ -67,7 +67,7 @@ module _ (words : List ℕ) (at : ℕ) (entries : Bytes) (start element : ℕ) w
   in_word_lem w b lt =
       let place : 64 * w + b ≡ w * 64 + b = omega arith in
       let entry : start + 128 * w + 2 * b ≡ start + 2 * (64 * w + b) = omega arith in
-      ap₂ (λ (t : Bool) (n : ℕ). t and u16 entries n == element) (sym (holds-bit words at w b lt) ∙ ap (holds words at) (sym place)) entry
+      ap₂ (λ (t : Bool) (n : ℕ). t and u16 entries n =? element) (sym (holds-bit words at w b lt) ∙ ap (holds words at) (sym place)) entry
 
   module _ {count w : ℕ} (room : SourcesRoom words at entries start count) (past : NoneBefore w) where
     member_inside : (k : ℕ) → k < 512 → Is (holds words at k) → k < count

@@ -6,7 +6,7 @@ use mathlib.Core.Logic.{inl, inr}
 use mathlib.Core.List.{List}
 use native.Mathlib.Omega.{arith}
 use lib.ListN.{length, get_or}
-use Rattle.model.specs.Tests.{Is, ◌and◌, first, ◌==◌}
+use Rattle.model.specs.Tests.{Is, ◌and◌, first, ◌=?◌}
 use Rattle.model.specs.Bytes.{Bytes, u16}
 use Rattle.model.specs.Layout.{Plan, node_count, map_count, source, target, node_a, node_b}
 use Rattle.model.specs.Nodes.{node_kind_at, node_region}
@@ -103,7 +103,7 @@ module _ {P : Plan} {d : Bytes} {q : Question} {nodes node_regions sizes entries
 
     -- an entry is an element, or not, as the map leads there
     leads : {start : ℕ} → start ≡ entry_start P D (node_b P x.node) → (k e : ℕ) → k < size D (source P (node_b P x.node)) → e < 512 →
-        (u16 entries (start + 2 * k) == e) ≡ maps_to P D (node_b P x.node) k e
+        (u16 entries (start + 2 * k) =? e) ≡ maps_to P D (node_b P x.node) k e
     leads begins k e lk le =
         same_truth
         (λ h. (points_to P D _ _ _).1 (record { from = lk; entry_is = sym (entry_read begins k) ∙ same h; some = λ z. omega arith }))

@@ -7,7 +7,7 @@ use native.Mathlib.Decide.{ℕ_discrete, dec_lt}
 use native.Mathlib.Omega.{arith}
 use lib.Pow.{pow_pos, pow_mono}
 use lib.Bits.{bit_or}
-use Rattle.model.specs.Tests.{Is, ◌and◌, ◌or◌, non, any, ◌==◌, ◌<?◌}
+use Rattle.model.specs.Tests.{Is, ◌and◌, ◌or◌, non, any, ◌=?◌, ◌<?◌}
 use Rattle.model.specs.Bytes.{Bytes, u16}
 use Rattle.model.specs.Words.{bit, digit, from_bits, word}
 use Rattle.model.proofs.Tests.{falsum, both, pair, either, one, lacks, refuted, same, same!, less, less!, some_of, among, same_truth}
@@ -103,8 +103,8 @@ module _ (entries : Bytes) (start members : ℕ) (elements : ℕ → Bool) where
 
   -- one member more, taken from the rest
   pub gathered_next : (rest left t v : ℕ) → t < 64 → Is (bit rest t) → Is (bit members t) → v ≡ u16 entries (start + 2 * t)
-      → ((b : ℕ) → bit left b ≡ (bit rest b and non (b == t)))
-      → (e : ℕ) → (gathered entries start members elements rest e or e == v) ≡ gathered entries start members elements left e
+      → ((b : ℕ) → bit left b ≡ (bit rest b and non (b =? t)))
+      → (e : ℕ) → (gathered entries start members elements rest e or e =? v) ≡ gathered entries start members elements left e
   unfolding gathered entries_of
   gathered_next rest left t v inside here member q cleared e =
       same_truth
@@ -120,8 +120,8 @@ module _ (entries : Bytes) (start members : ℕ) (elements : ℕ → Bool) where
         | inr y ↦ let k = some_of y in go k.0 k.1 k.2 (ℕ_discrete k.0 t)
       ])
     where
-      go : (k : ℕ) → k < 64 → Is ((bit members k and non (bit left k)) and u16 entries (start + 2 * k) == e) → Dec (k ≡ t)
-          → Is ((elements e or any 64 (λ k. (bit members k and non (bit rest k)) and u16 entries (start + 2 * k) == e)) or e == v)
+      go : (k : ℕ) → k < 64 → Is ((bit members k and non (bit left k)) and u16 entries (start + 2 * k) =? e) → Dec (k ≡ t)
+          → Is ((elements e or any 64 (λ k. (bit members k and non (bit rest k)) and u16 entries (start + 2 * k) =? e)) or e =? v)
       go k l s (yes r) = one (inr (same! (sym (same (both s).1) ∙ ap (λ (i : ℕ). u16 entries (start + 2 * i)) r ∙ sym q)))
       go k l s (no d) =
           one (inl (one (inr (among (
@@ -141,7 +141,7 @@ module _ (entries : Bytes) (start members : ℕ) (elements : ℕ → Bool) where
       (λ t. let k = some_of t in among (k.0, k.1, pair (pair (both k.2).0 (refuted (λ h. falsum (sym (ap (λ (r : ℕ). bit r k.0) z ∙ bit_zero k.0) ∙ h)))) (both k.2).1)))
 
 -- an entry that leads to an element
-pub entry_cut : (u e : ℕ) → e < 512 → (e == min u 512) ≡ (e == u)
+pub entry_cut : (u e : ℕ) → e < 512 → (e =? min u 512) ≡ (e =? u)
 entry_cut u e l = same_truth (λ t. let q = same t in same! (omega arith)) (λ t. let q = same t in same! (omega arith))
 
 module _ (entries : Bytes) (start : ℕ) (elements : ℕ → Bool) where
@@ -168,8 +168,8 @@ module _ (entries : Bytes) (start : ℕ) (elements : ℕ → Bool) where
       ])
       (λ t. let k = some_of t in go k.0 k.1 k.2 (dec_lt k.0 (64 * w)))
     where
-      go : (k : ℕ) → k < 64 * (w + 1) → Is (elements k and u16 entries (start + 2 * k) == e) → Dec (k < 64 * w)
-          → Is (any (64 * w) (λ k. elements k and u16 entries (start + 2 * k) == e) or any 64 (λ b. bit members b and u16 entries (start + 128 * w + 2 * b) == e))
+      go : (k : ℕ) → k < 64 * (w + 1) → Is (elements k and u16 entries (start + 2 * k) =? e) → Dec (k < 64 * w)
+          → Is (any (64 * w) (λ k. elements k and u16 entries (start + 2 * k) =? e) or any 64 (λ b. bit members b and u16 entries (start + 128 * w + 2 * b) =? e))
       go k l t (yes a) = one (inl (among (k, a, t)))
       go k l t (no a) =
           let at : w * 64 + (k - 64 * w) ≡ k = omega arith in

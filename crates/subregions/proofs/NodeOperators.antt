@@ -5,7 +5,7 @@ use mathlib.Core.Path.{◌≡◌, refl, sym, ap, ◌∙◌}
 use mathlib.Core.Logic.{inl, inr}
 use mathlib.Core.Bool.{Bool, true, false}
 use native.Mathlib.Omega.{arith}
-use Rattle.model.specs.Tests.{◌and◌, ◌or◌, ◌==◌, ◌<?◌, non}
+use Rattle.model.specs.Tests.{◌and◌, ◌or◌, ◌=?◌, ◌<?◌, non}
 use Rattle.model.specs.Partitions.{Partition, union, intersection, difference, image, preimage}
 use Rattle.model.specs.Layout.{Plan, supplied_count, node_count, source, target, supplied_region, node_kind, node_a, node_b}
 use Rattle.model.specs.Nodes.{SUPPLIED, EQUAL, UNION, INTERSECTION, DIFFERENCE, IMAGE, PREIMAGE, node_kind_of, node_kind_at, node_region}
@@ -24,7 +24,7 @@ use Rattle.primitives.proofs.Bits.{refute}
 use Rattle.subregions.proofs.NodePieces.{product}
 
 -- an entry below 512 is not none: it leads to one element
-maps_to_is : (P : Plan) (D : DataSet) (m k e : ℕ) → e < 512 → maps_to P D m k e ≡ (k <? size D (source P m) and entry P D m k == e)
+maps_to_is : (P : Plan) (D : DataSet) (m k e : ℕ) → e < 512 → maps_to P D m k e ≡ (k <? size D (source P m) and entry P D m k =? e)
 unfolding maps_to low past
 maps_to_is P D m k e h =
     same_truth
@@ -32,13 +32,13 @@ maps_to_is P D m k e h =
     let inside = (both t).0 in
     let from = most (both (both t).1).0 in
     let up_to_lem = less (both (both t).1).1 in
-    pair inside (elim (split (entry P D m k == NONE)) [
+    pair inside (elim (split (entry P D m k =? NONE)) [
       | inl n ↦ absurd (omega (arith, rw (pick_true _ (entry P D m k) (entry P D m k + 1) n) at up_to_lem))
       | inr n ↦ same! (let q : e < entry P D m k + 1 = rw (pick-false _ (entry P D m k) (entry P D m k + 1) (fails n)) at up_to_lem in omega arith)
     ]))
     (λ t.
     let q = same (both t).1 in
-    let some : (entry P D m k == NONE) ≡ false = refute (λ n. let z = same n in omega arith) in
+    let some : (entry P D m k =? NONE) ≡ false = refute (λ n. let z = same n in omega arith) in
     pair (both t).0 (pair (most! (omega arith)) (less! (rw (pick-false _ (entry P D m k) (entry P D m k + 1) some) (omega arith)))))
 
 -- image and preimage, of a set whose elements below the size of its region are the operand's

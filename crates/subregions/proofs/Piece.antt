@@ -9,7 +9,7 @@ use lib.Bits.{bit_and, bit_or, and_le_l, or_lt}
 use lib.ListN.{length, get_or, set, replicate, length-set, length-replicate, get_or-replicate}
 use lib.Seq.{get_or-set_same, get_or-set_other}
 use native.Mathlib.Decide.{ℕ_discrete, dec_lt}
-use Rattle.model.specs.Tests.{◌and◌, ◌or◌, ◌==◌}
+use Rattle.model.specs.Tests.{◌and◌, ◌or◌, ◌=?◌}
 use Rattle.model.specs.Bytes.{byte}
 use Rattle.model.specs.Words.{bit, holds, from_bits, word, store}
 use Rattle.model.proofs.Words.{bit_zero, bit_number, number_less, is_word, holds-bit, store_length, store_next, store_inside, store_outside, is_store}
@@ -144,14 +144,14 @@ module _ (T : ℕ → Bool) where
   set_same S words h same = record { nine = h.nine; small = h.small; holds_is = λ e l. h.holds_is e l ∙ same e l }
 
   -- an element added
-  pub set_added : (S : ℕ → Bool) (words : List ℕ) (n : ℕ) → n ≤ 512 → SetOf S words → ((e : ℕ) → e < 512 → (S e or e == n) ≡ T e)
+  pub set_added : (S : ℕ → Bool) (words : List ℕ) (n : ℕ) → n ≤ 512 → SetOf S words → ((e : ℕ) → e < 512 → (S e or e =? n) ≡ T e)
       → SetOf T (set words (n / 64) (bit_or (get_or words (n / 64) 0) ((1 * 2 ^ (n % 64)) % 2 ^ 64)))
   set_added S words n few h same =
       record {
         nine = length-set words (n / 64) _ ∙ h.nine;
         small = entry_changed 0 (λ x. x < 2 ^ 64) words (n / 64) _ 9 (omega (arith, h.nine)) h.small
             (or_lt 64 (get_or words (n / 64) 0) _ (h.small (n / 64) (omega arith)) (mod-lt (1 * 2 ^ (n % 64)) (omega arith)));
-        holds_is = λ e l. added words n e (omega (arith, h.nine)) ∙ ap (λ (t : Bool). t or e == n) (h.holds_is e l) ∙ same e l;
+        holds_is = λ e l. added words n e (omega (arith, h.nine)) ∙ ap (λ (t : Bool). t or e =? n) (h.holds_is e l) ∙ same e l;
       }
 
   pub set_piece : (words : List ℕ) → SetOf T words → PieceOf T words

@@ -3,7 +3,7 @@ use Prim.Native.Nat.{ℕ, ◌≤◌, ◌<◌}
 use mathlib.Core.Path.{◌≡◌, refl, sym, ap, ◌∙◌}
 use mathlib.Core.Logic.{inl, inr}
 use native.Mathlib.Omega.{arith}
-use Rattle.model.specs.Tests.{◌==◌, ◌≤?◌}
+use Rattle.model.specs.Tests.{◌=?◌, ◌≤?◌}
 use Rattle.model.specs.Bytes.{Bytes}
 use Rattle.model.specs.Outcomes.{require, ◌then◌, conclude_charge}
 use Rattle.model.specs.Layout.{Plan, plan_of, node_count}
@@ -40,7 +40,7 @@ module _ (P : Plan) (t : Transfer) where
       elim later.one_of_them [ inl is ↦ omega arith | inr is ↦ omega arith ]))
 
   module _ {j : ℕ} (later : Later t j) (listed : j < node_count P) where
-    past_nodes : transfer_check P t ≡ (require (node_region P t.accessed == node_region P t.owned) (InvalidCharge 2) then require (t.price ≤? MOST_PRICE) (InvalidCharge 3))
+    past_nodes : transfer_check P t ≡ (require (node_region P t.accessed =? node_region P t.owned) (InvalidCharge 2) then require (t.price ≤? MOST_PRICE) (InvalidCharge 3))
     unfolding transfer_check
     past_nodes =
         stage_passed _ refl refl (required _ _ (pair (less! (omega (arith, later.after_accessed))) (less! (omega (arith, later.after_owned)))))

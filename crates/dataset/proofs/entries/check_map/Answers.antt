@@ -1,5 +1,5 @@
 -- The numbers handed on are those of the map's record and of the sizes. Assumes nothing.
-use Rattle.model.specs.Tests.{◌==◌}
+use Rattle.model.specs.Tests.{◌=?◌}
 use Rattle.model.specs.DataSets.{entries_check, entry_fits, entry}
 use Rattle.dataset.proofs.entries.check_map.Goals as goal
 
@@ -15,7 +15,7 @@ check_map_entries-requires c =
     }
 
 pub returns : goal.returns
-unfolding entries_check entry_fits entry ◌==◌
+unfolding entries_check entry_fits entry ◌=?◌
 returns c =
     λ P D known begins.
     let maps = known.maps_are in

@@ -1,7 +1,7 @@
 -- The bodies cut out are the data set's, and each test is the definition's. Assumes nothing.
 use mathlib.Core.Path.{sym}
 use native.Mathlib.Omega.{arith}
-use Rattle.model.specs.Tests.{◌and◌, ◌==◌, ◌≤?◌}
+use Rattle.model.specs.Tests.{◌and◌, ◌=?◌, ◌≤?◌}
 use Rattle.model.specs.DataSets.{data_of}
 use Rattle.primitives.proofs.Bodies.{fewer}
 use Rattle.dataset.specs.Layout.{lengths_right}
@@ -20,7 +20,7 @@ pub section_body-members-requires : goal.section_body-members-requires
 section_body-members-requires c = fewer c.requires (omega arith)
 
 pub returns : goal.returns
-unfolding lengths_right ◌and◌ ◌==◌ ◌≤?◌
+unfolding lengths_right ◌and◌ ◌=?◌ ◌≤?◌
 returns c =
     let D = data_of c.args.«data».now in
     rw (

@@ -1,6 +1,6 @@
 -- The numbers handed on are those of the partition's record and of the sizes; by columns is by sets. Assumes nothing.
 use mathlib.Core.Path.{sym}
-use Rattle.model.specs.Tests.{◌==◌, ◌or◌}
+use Rattle.model.specs.Tests.{◌=?◌, ◌or◌}
 use Rattle.dataset.proofs.Columns.{by_columns}
 use Rattle.dataset.proofs.supplied.partition_keeps_flags.Goals as goal
 
@@ -17,7 +17,7 @@ columns_keep_flags-requires c =
     known.inside
 
 pub returns : goal.returns
-unfolding ◌==◌ ◌or◌
+unfolding ◌=?◌ ◌or◌
 returns c =
     λ P D known begins.
     let is = known.supplied_are in

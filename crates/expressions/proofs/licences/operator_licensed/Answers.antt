@@ -1,12 +1,12 @@
 -- The nodes, as they were read, and what steps p and q conclude are the rows' own. Assumes nothing.
-use Rattle.model.specs.Tests.{any, ◌and◌, ◌or◌, ◌==◌}
+use Rattle.model.specs.Tests.{any, ◌and◌, ◌or◌, ◌=?◌}
 use Rattle.model.specs.Lemmas.{licence, licences, operand_of, concludes_subset}
 use Rattle.expressions.proofs.NodeLaws.{node_is}
 use Rattle.expressions.proofs.StepLaws.{step_y_lem, tells_subset}
 use Rattle.expressions.proofs.licences.operator_licensed.Goals as goal
 
 pub returns : goal.returns
-unfolding licence licences operand_of concludes_subset any ◌and◌ ◌or◌ ◌==◌
+unfolding licence licences operand_of concludes_subset any ◌and◌ ◌or◌ ◌=?◌
 returns c P nodes steps premises =
     let y = c.node_at-y.ensures in
     let x = c.node_at-x.ensures in

@@ -1,12 +1,12 @@
 -- The nodes, as they were read, and what step p concludes are the row's own. Assumes nothing.
-use Rattle.model.specs.Tests.{any, ◌and◌, ◌or◌, ◌==◌}
+use Rattle.model.specs.Tests.{any, ◌and◌, ◌or◌, ◌=?◌}
 use Rattle.model.specs.Lemmas.{licence, licences, is_private_part, concludes_disjoint}
 use Rattle.expressions.proofs.NodeLaws.{node_is}
 use Rattle.expressions.proofs.StepLaws.{tells_disjoint}
 use Rattle.expressions.proofs.licences.private_licensed.Goals as goal
 
 pub returns : goal.returns
-unfolding licence licences is_private_part concludes_disjoint any ◌and◌ ◌or◌ ◌==◌
+unfolding licence licences is_private_part concludes_disjoint any ◌and◌ ◌or◌ ◌=?◌
 returns c P nodes premises =
     let rest_read = c.node_at-rest.ensures in
     rw (

@@ -2,7 +2,7 @@
 use mathlib.Core.Path.{◌≡◌, refl}
 use native.Mathlib.Numerals.{add-one}
 use native.Mathlib.Omega.{arith}
-use Rattle.model.specs.Tests.{any, ◌or◌, ◌==◌}
+use Rattle.model.specs.Tests.{any, ◌or◌, ◌=?◌}
 use borrow.Author.Rules.{rules}
 use Rattle.expressions.proofs.nodes.is_among.Goals as goal
 
@@ -11,7 +11,7 @@ unfolding any
 loop-k-init c = (search rules, refl)
 
 pub loop-k-preserved : goal.loop-k-preserved
-unfolding any ◌or◌ ◌==◌
+unfolding any ◌or◌ ◌=?◌
 loop-k-preserved c =
     let l = c.loop-k in
     (search rules, rw (add-one l.k, l.invariant.1))

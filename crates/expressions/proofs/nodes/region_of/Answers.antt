@@ -1,6 +1,6 @@
 -- By the kind; the table has the regions of the operands, which are earlier nodes. Assumes nothing.
 use borrow.Author.Rules.{rules}
-use Rattle.model.specs.Tests.{◌==◌}
+use Rattle.model.specs.Tests.{◌=?◌}
 use Rattle.model.specs.Nodes.{node_formed_by, node_region_by, node_agrees_by}
 use Rattle.model.proofs.Tests.{both}
 use Rattle.expressions.proofs.NodeLaws.{node_is, left_region, right_region, two_operands}
@@ -22,7 +22,7 @@ returns-in-Equal c =
     (search rules, λ P j maps supplied read. record { region = rw (told, node_is read); agrees = λ formed earlier. rw told })
 
 pub returns-in-Union : goal.returns-in-Union
-unfolding ◌==◌
+unfolding ◌=?◌
 returns-in-Union c =
     let left = c.byte_at-left.ensures.0 in (
       search rules,
@@ -37,7 +37,7 @@ returns-in-Union c =
     )
 
 pub returns-in-Image : goal.returns-in-Image
-unfolding node_formed_by node_region_by node_agrees_by ◌==◌
+unfolding node_formed_by node_region_by node_agrees_by ◌=?◌
 returns-in-Image c =
     let told = c.in-Image.is in (
       search rules,
@@ -51,7 +51,7 @@ returns-in-Image c =
     )
 
 pub returns-in-Preimage : goal.returns-in-Preimage
-unfolding node_formed_by node_region_by node_agrees_by ◌==◌
+unfolding node_formed_by node_region_by node_agrees_by ◌=?◌
 returns-in-Preimage c =
     let told = c.in-Preimage.is in (
       search rules,

@@ -1,6 +1,6 @@
 -- By whether the number is 0. Assumes nothing.
 use borrow.Author.Tests.{ne_eqb}
-use Rattle.model.specs.Tests.{◌==◌}
+use Rattle.model.specs.Tests.{◌=?◌}
 use Rattle.model.proofs.Tests.{same!, pick_true, pick-false}
 use Rattle.listing.specs.Text.{answer_text}
 use Rattle.listing.proofs.lines.answer_line.Goals as goal
@@ -13,7 +13,7 @@ returns-then-report-eq0 c =
     rw (pick_true _ _ _ (same! zero)) (rw report at c.numbers_line.ensures)
 
 pub returns-else-report-eq0 : goal.returns-else-report-eq0
-unfolding answer_text ◌==◌
+unfolding answer_text ◌=?◌
 returns-else-report-eq0 c =
     let report = c.report_answer-report.ensures in
     let other = rw report at c.if-report-eq0.false in

@@ -1,6 +1,6 @@
 -- By whether the number is 0. Assumes nothing.
 use borrow.Author.Tests.{ne_eqb}
-use Rattle.model.specs.Tests.{◌==◌}
+use Rattle.model.specs.Tests.{◌=?◌}
 use Rattle.model.proofs.Tests.{same!, pick_true, pick-false}
 use Rattle.listing.specs.Text.{charge_text}
 use Rattle.listing.proofs.lines.charge_line.Goals as goal
@@ -13,7 +13,7 @@ returns-then-charge-eq0 c =
     rw (pick_true _ _ _ (same! zero)) (rw report at c.numbers_line.ensures)
 
 pub returns-else-charge-eq0 : goal.returns-else-charge-eq0
-unfolding charge_text ◌==◌
+unfolding charge_text ◌=?◌
 returns-else-charge-eq0 c =
     let report = c.report_charge-charge.ensures in
     let other = rw report at c.if-charge-eq0.false in

@@ -2,7 +2,7 @@
 use Prim.Native.Nat.{◌/◌, ◌≤◌}
 use lib.ListN.{length}
 use mathlib.Core.Path.{sym}
-use Rattle.model.specs.Tests.{◌==◌}
+use Rattle.model.specs.Tests.{◌=?◌}
 use Rattle.model.specs.Layout.{plan_of}
 use Rattle.model.specs.Needs.{assignment_count_check}
 use Rattle.plan.proofs.assignments.check_assignments.Goals as goal
@@ -18,7 +18,7 @@ pub check_assigned_nodes-assigned-requires : goal.check_assigned_nodes-assigned-
 check_assigned_nodes-assigned-requires c = few_statements (goal.at.check_assigned_nodes-assigned-requires c).After-plan_section-statements
 
 pub returns : goal.returns
-unfolding assignment_count_check ◌==◌
+unfolding assignment_count_check ◌=?◌
 returns c =
     let P = plan_of c.args.plan.now in
     let statements_are = sym c.plan_section-statements.ensures in

@@ -1,5 +1,5 @@
 -- Before each node, what is left to search finds the image (Searching). Assumes nothing.
-use Rattle.model.specs.Tests.{◌==◌}
+use Rattle.model.specs.Tests.{◌=?◌}
 use Rattle.model.specs.Needs.{image_node}
 use Rattle.model.proofs.Tests.{same! }
 use Rattle.primitives.proofs.Searching.{searching_start, searching_next, searching_found, searching_end}
@@ -21,7 +21,7 @@ returns-then-keys-j c =
     )
 
 pub loop-j-preserved : goal.loop-j-preserved
-unfolding ◌==◌
+unfolding ◌=?◌
 loop-j-preserved c =
     let l = c.loop-j in (
       search rules,

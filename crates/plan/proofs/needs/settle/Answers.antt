@@ -3,7 +3,7 @@ use Prim.Native.Nat.{ℕ}
 use native.Mathlib.Omega.{arith}
 use lib.ListN.{get_or, length-replicate}
 use borrow.Author.Tests.{ne_eqb}
-use Rattle.model.specs.Tests.{◌==◌}
+use Rattle.model.specs.Tests.{◌=?◌}
 use Rattle.model.proofs.Tests.{same! }
 use Rattle.primitives.proofs.Searching.{searching_start, searching_next, searching_found, searching_end}
 use Rattle.plan.proofs.Settling.{Searched, settling_starts, settling_unasked, settling_found, settling_unmet, settling_ends}
@@ -32,7 +32,7 @@ pub steps-init : goal.steps-init
 steps-init c = searching_start _ _
 
 pub steps-preserved : goal.steps-preserved
-unfolding ◌==◌
+unfolding ◌=?◌
 steps-preserved c =
     searching_next c.steps.invariant c.if-t-steps.false (ne_eqb _ _ c.if-conclusions-t.false)
 

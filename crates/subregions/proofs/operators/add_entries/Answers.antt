@@ -5,7 +5,7 @@ use mathlib.Core.Path.{refl, sym, ap, ◌∙◌}
 use native.Mathlib.Nat.{le_refl}
 use lib.Bits.{and_le_l}
 use native.Mathlib.Omega.{arith}
-use Rattle.model.specs.Tests.{◌or◌, ◌==◌}
+use Rattle.model.specs.Tests.{◌or◌, ◌=?◌}
 use Rattle.model.proofs.Tests.{both}
 use Rattle.subregions.proofs.Maps.{gathered, gathered_none, gathered_next, gathered_all, entry_cut}
 use Rattle.subregions.proofs.Piece.{set_same, set_added}
@@ -41,7 +41,7 @@ loop-rest-preserved c =
       omega (arith, and_le_l l.rest (l.rest - 1), l.invariant.0),
       λ b t. l.invariant.1 b (both (sym (n.cleared b) ∙ t)).0,
       λ elements h. set_added _ _ _ _ (omega (arith, c.target-e.ensures)) (l.invariant.2 elements h)
-          (λ e m. ap (λ (v : ℕ). gathered a.entries.now a.start a.members elements l.rest e or e == v) c.target-e.ensures
+          (λ e m. ap (λ (v : ℕ). gathered a.entries.now a.start a.members elements l.rest e or e =? v) c.target-e.ensures
           ∙ ap (λ (t : Bool). gathered a.entries.now a.start a.members elements l.rest e or t) (entry_cut _ e m)
           ∙ gathered_next a.entries.now a.start a.members elements l.rest _ _ _ n.inside n.member (l.invariant.1 _ n.member) refl n.cleared e),
     )
