@@ -30,7 +30,7 @@ use Rattle.model.proofs.VariablesAgree.{FormedBefore, access_computed}
 use Rattle.model.proofs.StatementsAgree.{formed_resolves_a, formed_resolves_b}
 use Rattle.model.proofs.LoopAccesses.{access_region, loop_access}
 use Rattle.model.proofs.Demand2Loops.{statements_pass, all_formed}
-use Rattle.model.proofs.Undisturbed.{map_uncentered}
+use Rattle.model.proofs.CopiedVariables.{map_uncentered}
 
 -- statements over region 0, map 0 and field 0: FOR; CALL of variable 0; what goes through variable v
 abbrev for : Bytes

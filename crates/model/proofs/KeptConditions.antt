@@ -6,7 +6,7 @@ use mathlib.Core.Logic.{◌⊎◌, inl, inr}
 use native.Mathlib.Omega.{arith}
 use Rattle.model.specs.Layout.{Plan, map_count, statement_count, source, statement_kind, statement_a, statement_c}
 use Rattle.model.specs.Statements.{kind_of, operand_region, access_field, statement_formed_by}
-use Rattle.model.specs.LoopRelations.{InLoop, Resolves, Centered, loop_centered, copy_centered, AccessThrough, AccessField, of_load, of_read, of_write, of_reduce, AccessTarget}
+use Rattle.model.specs.LoopRelations.{InLoop, Resolves, Centered, loop_centered, AccessThrough, AccessField, of_load, of_read, of_write, of_reduce, AccessTarget}
 use Rattle.model.specs.PlainPlan.{StatementFormed, for_formed, load_formed, call_formed, copy_formed, read_or_write_formed, reduce_formed, ParallelizableLoop}
 use Rattle.model.specs.DataSets.{DataSet, size}
 use Rattle.model.specs.PlainData.{PointsTo}
@@ -18,7 +18,7 @@ use Rattle.model.proofs.LoopsAgree.{variable_kind}
 use Rattle.model.proofs.VariablesAgree.{kind_at, formed_at, access_computed}
 use Rattle.model.proofs.LoopAccesses.{access_resolves, access_region}
 use Rattle.model.proofs.Demand2Loops.{StatementsRead, all_formed}
-use Rattle.model.proofs.Undisturbed.{map_uncentered, copied_centered}
+use Rattle.model.proofs.CopiedVariables.{map_uncentered, copy_is_centered, copied_centered}
 use Rattle.model.proofs.AllToFirst.{RegionsListed, AllToFirst}
 
 -- what variables and accesses reach over such a data set
@@ -49,7 +49,7 @@ module _ (P : Plan) (R : RegionsListed P) (S : StatementsRead P) (D : DataSet) (
           inr (map_uncentered P (inr e), λ k lk. let (x, v, p) = follow (earlier _ _ w) a lk in called e w v p)
       go (copy_formed e w m b c) earlier =
           elim (earlier _ _ w) [
-            | inl near ↦ inl (copy_centered e w near.0, λ k. copied {s = d} (omega arith) w (near.1 k))
+            | inl near ↦ inl (copy_is_centered P e w near.0, λ k. copied {s = d} (omega arith) w (near.1 k))
             | inr far ↦ inr (λ x. far.0 (copied_centered P e w x), λ k lk. copied {s = d} (omega arith) w (far.1 k lk))
           ]
       go (read_or_write_formed (inl e) w q g c) earlier = absurd (omega arith)

@@ -11,6 +11,7 @@ pub mod VariablesAgree
 pub mod StatementsAgree
 pub mod LoopAccesses
 pub mod ParallelAgree
+pub mod CopiedVariables
 pub mod TwoTouches
 pub mod Undisturbed
 pub mod SymbolsAgree

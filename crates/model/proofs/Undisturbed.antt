@@ -1,42 +1,29 @@
 -- No iteration of a parallelizable loop disturbs another, over any data set. Assumes nothing.
 use Prim.Native.Nat.{ℕ}
-use mathlib.Core.Path.{◌≡◌, refl, subst}
+use mathlib.Core.Path.{◌≡◌, refl}
 use mathlib.Core.Logic.{◌⊎◌, inl, inr, ⊎_elim}
 use native.Mathlib.Omega.{arith}
 use Rattle.model.specs.Bytes.{Bytes}
-use Rattle.model.specs.Layout.{Plan, plan_of, statement_kind, statement_a}
-use Rattle.model.specs.LoopRelations.{Resolves, Centered, loop_centered, copy_centered, AccessField, of_load, of_read, of_write, of_reduce}
+use Rattle.model.specs.Layout.{Plan, plan_of}
+use Rattle.model.specs.LoopRelations.{Centered, loop_centered, AccessField, of_load, of_read, of_write, of_reduce}
 use Rattle.model.specs.PlainPlan.{ParallelizableLoop, Parallelizable}
 use Rattle.model.specs.DataSets.{DataSet, data_of}
 use Rattle.model.specs.Touches.{Value, itself, loaded, called, copied}
 use Rattle.model.specs.Undisturbed.{TouchesField, UndisturbedLoop, PlainlyUndisturbedLoop, Undisturbed}
-use Rattle.model.proofs.LoopsAgree.{one_definition}
-use Rattle.model.proofs.StatementKinds.{FollowsMap}
+use Rattle.model.proofs.CopiedVariables.{map_uncentered, copy_is_centered, copied_centered}
 use Rattle.model.proofs.TwoTouches.{Settles, settling_centered, beside_reduction, beside_read}
 
 module _ (P : Plan) where
-  -- what follows a map is not centered
-  pub map_uncentered : {d : ℕ} → FollowsMap P d → Centered P d → ⊥
-  map_uncentered (inl h) (loop_centered e) = omega arith
-  map_uncentered (inr h) (loop_centered e) = omega arith
-  map_uncentered (inl h) (copy_centered e w c) = omega arith
-  map_uncentered (inr h) (copy_centered e w c) = omega arith
-
-  -- a COPY is centered only where what it copies is
-  pub copied_centered : {d c : ℕ} → statement_kind P d ≡ 3 → Resolves P d (statement_a P d) c → Centered P d → Centered P c
-  copied_centered h w (loop_centered e) = absurd (omega arith)
-  copied_centered h w (copy_centered e u c) = subst (Centered P) (one_definition P u w) c
-
   module _ (D : DataSet) where
     -- a variable with a value is centered, and then its value is the iteration's own element, or it is not
     own_element : {d k e : ℕ} → Value P D d k e → (Centered P d × (e ≡ k)) ⊎ (Centered P d → ⊥)
     own_element (itself h) = inl (loop_centered h, refl)
-    own_element (loaded h w v p) = inr (map_uncentered (inl h))
-    own_element (called h w v p) = inr (map_uncentered (inr h))
+    own_element (loaded h w v p) = inr (map_uncentered P (inl h))
+    own_element (called h w v p) = inr (map_uncentered P (inr h))
     own_element (copied {s = s} h w v) =
         elim (own_element v) [
-          | inl own ↦ inl (copy_centered {d = s} (omega (arith, h)) w own.0, own.1)
-          | inr n ↦ inr (λ c. n (copied_centered {d = s} (omega (arith, h)) w c))
+          | inl own ↦ inl (copy_is_centered P {d = s} (omega (arith, h)) w own.0, own.1)
+          | inr n ↦ inr (λ c. n (copied_centered P {d = s} (omega (arith, h)) w c))
         ]
 
     module _ {f : ℕ} (L : ParallelizableLoop P f) where
