@@ -18,7 +18,7 @@ fn main() {
     println!("cargo:rerun-if-changed={}", file.display());
     if !file.is_file() {
         eprintln!(
-            "{} is not there: run `rt staticlib mavisglen`, or name its folder in {FOLDER_VARIABLE}",
+            "{} is not there: run `.ci/library`, or name its folder in {FOLDER_VARIABLE}",
             file.display()
         );
         std::process::exit(1);

@@ -8,7 +8,7 @@
 //! place. The bytes of plans and data sets are described in the repository's `docs/FORMAT.md`.
 //!
 //! The library is proved to answer as that page says; this crate hands slices to its four functions and reads
-//! their answers. The build links `libmavisglen.a`, made by `rt staticlib mavisglen`, from the repository's
+//! their answers. The build links `libmavisglen.a`, made by `.ci/library`, from the repository's
 //! `target/staticlib` or from the folder named in `MAVISGLEN_LIB`. Without the feature `library`, which is on
 //! by default, nothing is linked and the four functions are left out.
 //!
