@@ -11,10 +11,6 @@ use Rattle.std.specs.declared.option.Option.{Option}
 use Rattle.std.specs.Io.KnownBytes.{Consumes}
 use borrow.Rule.Slice.PartMut.{put_mid, post_of}
 
-pub none_read : (a : Option (List ℕ)) → Consumes a a []
-none_read None = tt
-none_read (Some x) = refl
-
 pub then_read : (a b c : Option (List ℕ)) (s t : List ℕ) → Consumes a b s → Consumes b c t → Consumes a c (s ++ t)
 then_read None b c s t first second = tt
 then_read (Some x) None c s t first second = absurd first

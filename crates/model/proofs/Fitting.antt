@@ -53,10 +53,10 @@ module _ (P : Plan) (D : DataSet) (m k : ℕ) where
   maps_from e h =
       let (inside, range) = both h in
       let from = most (both range).0 in
-      let up_to_lem = less (both range).1 in
+      let up-to = less (both range).1 in
       elim (split (entry P D m k =? NONE)) [
-        | inl none ↦ absurd (omega (arith, rw (pick_true _ _ _ none) at up_to_lem))
-        | inr some ↦ (less inside, some, omega (arith, rw (pick-false _ _ _ (fails some)) at up_to_lem))
+        | inl none ↦ absurd (omega (arith, rw (pick_true _ _ _ none) at up-to))
+        | inr some ↦ (less inside, some, omega (arith, rw (pick-false _ _ _ (fails some)) at up-to))
       ]
 
   maps_to_lem : k < size D (source P m) → Is (non (entry P D m k =? NONE)) → Is (maps_to P D m k (entry P D m k))

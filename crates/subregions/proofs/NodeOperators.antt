@@ -31,10 +31,10 @@ maps_to_is P D m k e h =
     (λ t.
     let inside = (both t).0 in
     let from = most (both (both t).1).0 in
-    let up_to_lem = less (both (both t).1).1 in
+    let up-to = less (both (both t).1).1 in
     pair inside (elim (split (entry P D m k =? NONE)) [
-      | inl n ↦ absurd (omega (arith, rw (pick_true _ (entry P D m k) (entry P D m k + 1) n) at up_to_lem))
-      | inr n ↦ same! (let q : e < entry P D m k + 1 = rw (pick-false _ (entry P D m k) (entry P D m k + 1) (fails n)) at up_to_lem in omega arith)
+      | inl n ↦ absurd (omega (arith, rw (pick_true _ (entry P D m k) (entry P D m k + 1) n) at up-to))
+      | inr n ↦ same! (let q : e < entry P D m k + 1 = rw (pick-false _ (entry P D m k) (entry P D m k + 1) (fails n)) at up-to in omega arith)
     ]))
     (λ t.
     let q = same (both t).1 in
