@@ -2,11 +2,14 @@
 use Prim.Native.Nat.{ℕ, zero, suc, ◌+◌, ◌-◌, ◌*◌, ◌/◌, ◌%◌, ◌^◌, ◌≤◌, ◌<◌}
 use mathlib.Core.Path.{◌≡◌, refl, sym, ap, ap₂, ◌∙◌}
 use mathlib.Core.Logic.{inl, inr}
+use mathlib.Core.List.{List}
+use lib.ListN.{get_or}
+use Rattle.std.specs.Int.{w64, from_le_bytes}
 use mathlib.Core.Bool.{Bool, true, false}
 use native.Mathlib.Nat.{suc-mul}
 use native.Mathlib.Decide.{dec_lt}
 use native.Mathlib.Omega.{arith}
-use lib.Pow.{pow-add, pow_mono, shr_le}
+use lib.Pow.{pow-add, shr_le}
 use lib.Arith.{digits_lt}
 use lib.Bits.{bit_and, bit_or, and_lt, or_lt}
 use Rattle.model.specs.Tests.{Is, ◌and◌, ◌or◌, non, every, pick, ◌=?◌, ◌<?◌}
@@ -14,44 +17,18 @@ use Rattle.model.specs.Bytes.{Bytes, byte}
 use Rattle.model.specs.Words.{bit, digit, from_bits}
 use Rattle.model.proofs.Tests.{both, either, same, less, fails, every_at, pick_true, pick-false}
 use Rattle.model.proofs.Words.{is_number, bit_number, number_same}
-use Rattle.bitsets.specs.Elements.{two_bytes, bytes_bits, exchanged, exchanged_bits, LowerPlaces, reversed_bits}
+use Rattle.bitsets.specs.Elements.{bytes_bits, exchanged, exchanged_bits, LowerPlaces, reversed_bits}
 use Rattle.primitives.proofs.Bits.{kept, false_or, and_false, and-true, or-false, bit-bit_and, bit-bit_or, bit_down, bit_up, bit_up_low, bit_low, bit_lower, bit_upper}
-use Rattle.primitives.proofs.Shifts.{shifted_or}
 
 -- n bytes as a number, the first lowest
 unfoldable pub joined : ℕ → (ℕ → ℕ) → ℕ
 joined zero bytes = 0
 joined (suc n) bytes = joined n (λ i. bytes (suc i)) * 256 + bytes 0
 
-pub joined_same : (n : ℕ) (f g : ℕ → ℕ) → ((i : ℕ) → f i ≡ g i) → joined n f ≡ joined n g
-unfolding joined
-joined_same zero f g h = refl
-joined_same (suc n) f g h = ap₂ (λ (x y : ℕ). x * 256 + y) (joined_same n _ _ (λ i. h (suc i))) (h 0)
-
 pub joined_less : (n : ℕ) (bytes : ℕ → ℕ) → ((i : ℕ) → bytes i < 256) → joined n bytes < 2 ^ (n * 8)
 unfolding joined
 joined_less zero bytes h = omega arith
 joined_less (suc n) bytes h = rw (suc-mul, pow-add) (digits_lt (joined_less n (λ i. bytes (suc i)) (λ i. h (suc i))) (h 0))
-
--- a number of fewer than eight bytes has room for one more
-joined_room : (n : ℕ) (bytes : ℕ → ℕ) → ((i : ℕ) → bytes i < 256) → n < 8 → joined n bytes * 2 ^ 8 < 2 ^ 64
-joined_room n bytes h l =
-    let few : n * 8 ≤ 56 = omega arith in
-    omega (arith, joined_less n bytes h, pow_mono few)
-
--- a byte more, in front
-pub joined_next : (s : Bytes) → ((i : ℕ) → byte s i < 256) → (at i r x : ℕ) → 0 < i → i ≤ 8 → r ≡ joined (8 - i) (λ n. byte s (at + (i + n))) → x ≡ byte s (at + (i - 1))
-    → bit_or ((r * 2 ^ 8) % 2 ^ 64) x ≡ joined (8 - (i - 1)) (λ n. byte s (at + (i - 1 + n)))
-unfolding joined
-joined_next s small at i r x some few q h =
-    let more : 8 - (i - 1) ≡ suc (8 - i) = omega arith in
-    let here : at + (i - 1) ≡ at + (i - 1 + 0) = omega arith in
-    let room = joined_room (8 - i) (λ n. byte s (at + (i + n))) (λ n. small (at + (i + n))) (omega arith) in
-    shifted_or 64 8 r x (omega (arith, q, room)) (omega (arith, h, small (at + (i - 1))))
-    ∙ ap₂ (λ (y z : ℕ). y * 256 + z)
-    (q ∙ joined_same (8 - i) _ _ (λ n. let e : at + (i + n) ≡ at + (i - 1 + suc n) = omega arith in ap (byte s) e))
-    (h ∙ ap (byte s) here)
-    ∙ ap (λ (m : ℕ). joined m (λ n. byte s (at + (i - 1 + n)))) (sym more)
 
 joined-bit : (n : ℕ) (bytes : ℕ → ℕ) → ((i : ℕ) → bytes i < 256) → (b : ℕ) → b < n * 8 → bit (joined n bytes) b ≡ bit (bytes (b / 8)) (b % 8)
 unfolding joined
@@ -72,41 +49,19 @@ joined-bit (suc n) bytes h b l = go (dec_lt b 8) (joined-bit n (λ i. bytes (suc
         ∙ bit_upper (joined n (λ i. bytes (suc i))) 8 (bytes 0) (b - 8) (h 0) ∙ rest (omega (arith, l))
         ∙ ap₂ (λ (i e : ℕ). bit (bytes i) e) q r
 
-pub joined_word : (s : Bytes) (at : ℕ) → ((i : ℕ) → byte s i < 256) → joined 8 (λ i. byte s (at + i)) ≡ from_bits 64 (bytes_bits s at)
+joined_word : (s : Bytes) (at : ℕ) → ((i : ℕ) → byte s i < 256) → joined 8 (λ i. byte s (at + i)) ≡ from_bits 64 (bytes_bits s at)
 unfolding bytes_bits
 joined_word s at small =
     is_number 64 _ (bytes_bits s at) (joined_less 8 _ (λ i. small (at + i))) (λ b l. joined-bit 8 _ (λ i. small (at + i)) b l)
 
--- eight bytes by two, as a sum
-eight_sum : (s : Bytes) (at : ℕ) → ((i : ℕ) → byte s i < 256)
-    → (two_bytes s (at + 6) * 65536 + two_bytes s (at + 4)) * 4294967296 + (two_bytes s (at + 2) * 65536 + two_bytes s at) ≡ from_bits 64 (bytes_bits s at)
+-- eight bytes as the library puts them together
+pub eight_word : (s : Bytes) (at : ℕ) (bytes : List ℕ) → ((i : ℕ) → byte s i < 256) → ((i : ℕ) → i < 8 → get_or bytes i 0 ≡ byte s (at + i))
+    → from_le_bytes w64 bytes ≡ from_bits 64 (bytes_bits s at)
 unfolding joined
-eight_sum s at small =
-    let zeroth : at ≡ at + 0 = omega arith in
-    let third : at + 2 + 1 ≡ at + 3 = omega arith in
-    let fifth : at + 4 + 1 ≡ at + 5 = omega arith in
-    let seventh : at + 6 + 1 ≡ at + 7 = omega arith in
-    omega (arith, ap (byte s) zeroth, ap (byte s) third, ap (byte s) fifth, ap (byte s) seventh, joined_word s at small)
-
--- and by shifts
-pub eight_word : (s : Bytes) (at a b c d : ℕ) → ((i : ℕ) → byte s i < 256)
-    → (a ≡ two_bytes s (at + 6)) × (a < 65536) → (b ≡ two_bytes s (at + 4)) × (b < 65536)
-    → (c ≡ two_bytes s (at + 2)) × (c < 65536) → (d ≡ two_bytes s at) × (d < 65536)
-    → bit_or ((bit_or ((a * 2 ^ 16) % 2 ^ 64) b * 2 ^ 32) % 2 ^ 64) (bit_or ((c * 2 ^ 16) % 2 ^ 64) d) ≡ from_bits 64 (bytes_bits s at)
-eight_word s at a b c d small p q r t =
-    let high = shifted_or 64 16 a b (omega (arith, p.1)) q.1 in
-    let low = shifted_or 64 16 c d (omega (arith, r.1)) t.1 in
-    ap₂ (λ (x y : ℕ). bit_or ((x * 2 ^ 32) % 2 ^ 64) y) high low
-    ∙ shifted_or 64 32 (a * 65536 + b) (c * 65536 + d) (omega (arith, p.1, q.1)) (omega (arith, r.1, t.1))
-    ∙ omega (arith, p.0, q.0, r.0, t.0, eight_sum s at small)
-
--- and the last one
-pub joined_last : (s : Bytes) (at i r : ℕ) → ((i : ℕ) → byte s i < 256) → i ≤ 0 → r ≡ joined (8 - i) (λ n. byte s (at + (i + n)))
-    → r ≡ from_bits 64 (bytes_bits s at)
-joined_last s at i r small h q =
-    let all : 8 - i ≡ 8 = omega arith in
-    q ∙ ap (λ (m : ℕ). joined m (λ n. byte s (at + (i + n)))) all
-    ∙ joined_same 8 _ _ (λ n. let e : at + (i + n) ≡ at + n = omega arith in ap (byte s) e) ∙ joined_word s at small
+eight_word s at bytes small are =
+    let sum : from_le_bytes w64 bytes ≡ joined 8 (λ i. byte s (at + i)) =
+    omega (arith, are 0 (omega arith), are 1 (omega arith), are 2 (omega arith), are 3 (omega arith), are 4 (omega arith), are 5 (omega arith), are 6 (omega arith), are 7 (omega arith)) in
+    sum ∙ joined_word s at small
 
 -- bits exchanged by a shift up and a shift down
 pub exchanged_word : (x mask by : ℕ) → x < 2 ^ 64 → mask < 2 ^ 64 → LowerPlaces mask by

@@ -1,21 +1,21 @@
 -- The laws of the sets that the fills make, a word at a time. Assumes nothing.
-use Prim.Native.Nat.{ℕ, ◌+◌, ◌-◌, ◌*◌, ◌/◌, ◌%◌, ◌^◌, ◌≤◌, ◌<◌, zero, suc}
-use mathlib.Core.Path.{◌≡◌, sym, ap, ap₂, ◌∙◌, subst}
+use Prim.Native.Nat.{ℕ, ◌+◌, ◌-◌, ◌*◌, ◌/◌, ◌%◌, ◌^◌, ◌≤◌, ◌<◌}
+use mathlib.Core.Path.{refl, ◌≡◌, sym, ap, ap₂, ◌∙◌, subst}
 use mathlib.Core.Bool.{Bool, false}
-use mathlib.Core.List.{List, [], ◌∷◌}
+use mathlib.Core.List.{List}
 use native.Mathlib.Decide.{ℕ_discrete}
 use native.Mathlib.Omega.{arith}
-use lib.Bits.{bit_and, bit_or, and_lt, or_lt}
+use lib.Bits.{bit_and, bit_or, and_lt, or_lt, and_mask}
 use lib.Pow.{pow_pos, pow-lt}
 use lib.ListN.{length, get_or, set}
 use lib.Seq.{get_or-set_same, get_or-set_other}
 use native.Mathlib.Nat.{zero-add}
+use lib.Dec.{eqb as nat_eq}
 use Rattle.model.specs.Tests.{◌and◌, ◌or◌, non, ◌=?◌}
 use Rattle.model.specs.Words.{bit, holds, from_bits, word}
-use Rattle.bitsets.specs.declared.words.SetOperator.TheVariants.{Union, Intersection, Difference}
-use Rattle.model.proofs.Tests.{both, pair, lacks, refuted, same, same!, less, less!, most, most!, same_truth}
+use Rattle.model.proofs.Tests.{falsum, both, pair, lacks, refuted, same, same!, less, less!, most, most!, same_truth}
 use Rattle.model.proofs.Words.{bit_zero, is_number, is_word, word_less, bit_word}
-use Rattle.bitsets.specs.Elements.{up_to, between, combination, combined_bits, PieceOf, word_at}
+use Rattle.bitsets.specs.Elements.{up_to, between, union, intersection, difference, combined_bits, OneBit}
 use Rattle.primitives.proofs.Bits.{refute, or-false, bit-bit_and, bit-bit_or, bit_not, bit_power, bit_ones, one_shifted}
 
 -- the elements below a number: none of a word, all of it, or the lowest of it
@@ -40,10 +40,10 @@ pub some_below : (count w : ℕ) → count < 64 * w + 64 → 1 ≤ (1 * 2 ^ (cou
 some_below count w high = subst (λ (x : ℕ). 1 ≤ x) (sym (one_shifted (count - 64 * w) (omega arith))) (pow_pos (count - 64 * w))
 
 -- the elements below high that are not below low
-pub between-word : (low high w x y : ℕ) → x ≡ word (up_to high) w → y ≡ word (up_to low) w
+pub between_word : (low high w x y : ℕ) → x ≡ word (up_to high) w → y ≡ word (up_to low) w
     → bit_and x ((2 ^ 64 - 1) - y) ≡ word (between low high) w
 unfolding up_to between
-between-word low high w x y p q =
+between_word low high w x y p q =
     ap₂ (λ (u v : ℕ). bit_and u ((2 ^ 64 - 1) - v)) p q
     ∙ is_word _ (between low high) w (and_lt 64 _ _ (word_less (up_to high) w) (omega arith))
     (λ b l. bit-bit_and _ _ b
@@ -58,16 +58,16 @@ between_none low high e h = refute (λ t. h (most (both t).0) (less (both t).1))
 
 -- one word of a union, an intersection, a difference
 module _ (x y : ℕ) (hx : x < 2 ^ 64) (hy : y < 2 ^ 64) where
-  pub union_word : bit_or x y ≡ from_bits 64 (combined_bits Union x y)
-  unfolding combined_bits combination
+  pub union_word : bit_or x y ≡ from_bits 64 (combined_bits union x y)
+  unfolding combined_bits
   union_word = is_number 64 _ _ (or_lt 64 x y hx hy) (λ b l. bit-bit_or x y b)
 
-  pub intersection_word : bit_and x y ≡ from_bits 64 (combined_bits Intersection x y)
-  unfolding combined_bits combination
+  pub intersection_word : bit_and x y ≡ from_bits 64 (combined_bits intersection x y)
+  unfolding combined_bits
   intersection_word = is_number 64 _ _ (and_lt 64 x y hx hy) (λ b l. bit-bit_and x y b)
 
-  pub difference_word : bit_and x ((2 ^ 64 - 1) - y) ≡ from_bits 64 (combined_bits Difference x y)
-  unfolding combined_bits combination
+  pub difference_word : bit_and x ((2 ^ 64 - 1) - y) ≡ from_bits 64 (combined_bits difference x y)
+  unfolding combined_bits
   difference_word =
       is_number 64 _ _ (and_lt 64 x ((2 ^ 64 - 1) - y) hx (omega arith))
       (λ b l. bit-bit_and x _ b ∙ ap (λ (t : Bool). bit x b and t) (bit_not 64 y b hy l))
@@ -91,18 +91,15 @@ added words n x room = rw (one_shifted (n % 64) (omega arith), zero-add (x / 64)
         rw (get_or-set_other words (n / 64) (x / 64) (bit_or (get_or words (n / 64) 0) (2 ^ (n % 64))) 0 d)
         (sym (ap (λ (t : Bool). bit (get_or words (x / 64) 0) (x % 64) or t) (refute (λ t. let r = same t in d (omega arith))) ∙ or-false _))
 
--- eight words written out
-module _ (elements : ℕ → Bool) {x0 x1 x2 x3 x4 x5 x6 x7 : ℕ} (e0 : x0 ≡ word elements 0) (e1 : x1 ≡ word elements 1) (e2 : x2 ≡ word elements 2) (e3 : x3 ≡ word elements 3) (e4 : x4 ≡ word elements 4) (e5 : x5 ≡ word elements 5) (e6 : x6 ≡ word elements 6) (e7 : x7 ≡ word elements 7) where
-  each : (w : ℕ) → w < 8 → word_at (x0 ∷ x1 ∷ x2 ∷ x3 ∷ x4 ∷ x5 ∷ x6 ∷ x7 ∷ []) w ≡ word elements w
-  each zero l = e0
-  each (suc zero) l = e1
-  each (suc (suc zero)) l = e2
-  each (suc (suc (suc zero))) l = e3
-  each (suc (suc (suc (suc zero)))) l = e4
-  each (suc (suc (suc (suc (suc zero))))) l = e5
-  each (suc (suc (suc (suc (suc (suc zero)))))) l = e6
-  each (suc (suc (suc (suc (suc (suc (suc zero))))))) l = e7
-  each (suc (suc (suc (suc (suc (suc (suc (suc w)))))))) l = absurd (omega arith)
+-- a place tested by a shift down and a mask of one bit
+pub place_tested : (w place : ℕ) → nat_eq (bit_and (w / 2 ^ place) 1) 1 ≡ bit w place
+unfolding bit ◌=?◌
+place_tested w place = ap (λ (x : ℕ). x =? 1) (and_mask (w / 2 ^ place) 1)
 
-  pub eight_words : PieceOf elements (x0 ∷ x1 ∷ x2 ∷ x3 ∷ x4 ∷ x5 ∷ x6 ∷ x7 ∷ [])
-  eight_words = record { eight = omega arith; word_is = each }
+-- a power of 2 has one bit, and 0 has none
+pub bit_shifted : (place : ℕ) → place < 64 → OneBit place ((1 * 2 ^ place) % 2 ^ 64)
+bit_shifted place h =
+    rw (one_shifted place h) (record { its_bit = λ l. bit_power place place ∙ same! refl; no_other = λ b is. same (sym (bit_power place b) ∙ is) })
+
+pub no_bit : (place : ℕ) → 64 ≤ place → OneBit place 0
+no_bit place h = record { its_bit = λ l. absurd (omega arith); no_other = λ b is. falsum (sym (bit_zero b) ∙ is) }

@@ -1,10 +1,8 @@
 -- Sets of elements as the fills make them, from numbers, bytes and words alone.
-use Rattle.std.specs.Prelude.{ℕ, ◌+◌, ◌-◌, ◌*◌, ◌/◌, ◌%◌, ◌≤◌, ◌<◌, ◌≡◌, List, length, get_or, Bool}
+use Rattle.std.specs.Prelude.{ℕ, ◌+◌, ◌-◌, ◌*◌, ◌/◌, ◌%◌, ◌≤◌, ◌<◌, ◌≡◌, List, length, get_or, Bool, false, refl}
 use Rattle.model.specs.Tests.{Is, ◌and◌, ◌or◌, non, any, pick, ◌=?◌, ◌<?◌, ◌≤?◌}
 use Rattle.model.specs.Bytes.{Bytes, byte, u16}
 use Rattle.model.specs.Words.{bit, holds, word}
-use Rattle.bitsets.specs.declared.words.SetOperator.{SetOperator}
-use Rattle.bitsets.specs.declared.words.SetOperator.TheVariants.{Union, Intersection, Difference}
 
 -- the elements below n
 unfoldable pub up_to : ℕ → ℕ → Bool
@@ -14,19 +12,32 @@ up_to n e = e <? n
 unfoldable pub between : ℕ → ℕ → ℕ → Bool
 between low high e = low ≤? e and e <? high
 
--- one element of a union, an intersection or a difference
-unfoldable pub combination : SetOperator → Bool → Bool → Bool
-combination Union s t = s or t
-combination Intersection s t = s and t
-combination Difference s t = s and non t
+-- one element of a union, an intersection and a difference
+abbrev pub union : Bool → Bool → Bool
+union s t = s or t
+
+abbrev pub intersection : Bool → Bool → Bool
+intersection s t = s and t
+
+abbrev pub difference : Bool → Bool → Bool
+difference s t = s and non t
+
+-- each has no element that neither set has
+pub neither-union : union false false ≡ false
+unfolding ◌or◌
+neither-union = refl
+
+pub neither-intersection : intersection false false ≡ false
+unfolding ◌and◌
+neither-intersection = refl
+
+pub neither-difference : difference false false ≡ false
+unfolding ◌and◌
+neither-difference = refl
 
 -- the bits of two words combined
-unfoldable pub combined_bits : SetOperator → ℕ → ℕ → ℕ → Bool
-combined_bits operator x y b = combination operator (bit x b) (bit y b)
-
--- two bytes as a number, the first lower
-abbrev pub two_bytes : Bytes → ℕ → ℕ
-two_bytes s at = byte s (at + 1) * 256 + byte s at
+unfoldable pub combined_bits : (Bool → Bool → Bool) → ℕ → ℕ → ℕ → Bool
+combined_bits combination x y b = combination (bit x b) (bit y b)
 
 -- the bits of eight bytes from a place on, the first byte's lowest; bytes past the end are 0
 unfoldable pub bytes_bits : Bytes → ℕ → ℕ → Bool
@@ -67,9 +78,9 @@ pub record PieceOf (elements : ℕ → Bool) (piece : List ℕ) : Type 0 where
 unfoldable pub masked : List ℕ → (ℕ → Bool) → ℕ → Bool
 masked masks elements e = holds masks 0 e and elements e
 
--- a union, an intersection or a difference
-unfoldable pub combined : SetOperator → (ℕ → Bool) → (ℕ → Bool) → ℕ → Bool
-combined operator A B e = combination operator (A e) (B e)
+-- a set made of two, as a union, an intersection or a difference is
+unfoldable pub combined : (Bool → Bool → Bool) → (ℕ → Bool) → (ℕ → Bool) → ℕ → Bool
+combined combination A B e = combination (A e) (B e)
 
 -- the bytes of a piece, "one bit per element from element 0, highest bit first"
 unfoldable pub supplied_elements : Bytes → ℕ → ℕ → Bool

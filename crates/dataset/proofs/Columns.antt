@@ -2,11 +2,13 @@
 use Prim.Native.Nat.{ℕ, zero, suc, ◌+◌, ◌-◌, ◌*◌, ◌/◌, ◌%◌, ◌^◌, ◌≤◌, ◌<◌}
 use mathlib.Core.Path.{◌≡◌, sym, ap, ap₂, ◌∙◌, fun_ext}
 use mathlib.Core.Bool.{Bool}
-use native.Mathlib.Nat.{mul-le-mul_right, suc-mul}
+use native.Mathlib.Numerals.{add-one}
 use native.Mathlib.Omega.{arith}
-use lib.Bits.{bit_and, and_lt}
+use lib.Bits.{bit_and, bit_or, and_lt}
+use lib.ListN.{drop}
+use lib.Seq.{get_or-drop}
 use Rattle.model.specs.Tests.{Is, ◌and◌, ◌or◌, any, ◌=?◌}
-use Rattle.model.specs.Bytes.{byte}
+use Rattle.model.specs.Bytes.{Bytes, byte}
 use Rattle.model.specs.Words.{bit, word}
 use Rattle.model.specs.Layout.{Plan, supplied_region, supplied_flags}
 use Rattle.model.specs.DataSets.{DataSet, pieces, size, piece_bytes, member_start, supplied_bit, supplied, declarations_hold}
@@ -18,9 +20,15 @@ use Rattle.bitsets.specs.Elements.{up_to, between, bytes_bits, reversed_bits}
 use Rattle.dataset.specs.Columns.{united, repeated, piece_word, column_of, column_at, columns_keep_flags}
 use Rattle.primitives.proofs.Bits.{refute, bit-bit_and, bit-bit_or}
 
--- a piece's bytes lie within those of all pieces
-pub piece_inside : (piece pieces width : ℕ) → piece < pieces → piece * width + width ≤ pieces * width
-piece_inside piece pieces width lt = rw suc-mul at (mul-le-mul_right width lt)
+-- one more word
+module _ (words : ℕ → ℕ) (n : ℕ) where
+  pub united_next : united words (n + 1) ≡ bit_or (united words n) (words n)
+  unfolding united
+  united_next = rw (add-one n)
+
+  pub repeated_next : repeated words (n + 1) ≡ bit_or (repeated words n) (bit_and (united words n) (words n))
+  unfolding repeated
+  repeated_next = rw (add-one n)
 
 -- a word with no bit
 module _ (x : ℕ) where
@@ -48,8 +56,12 @@ module _ (P : Plan) (D : DataSet) (k : ℕ) where
   abbrev elements : ℕ
   elements = size D (supplied_region P k)
 
+  -- the members from its first piece on
+  abbrev members : Bytes
+  members = drop (member_start P D k) D.members
+
   abbrev words : ℕ → ℕ → ℕ
-  words c = piece_word D.members (member_start P D k) ((elements + 7) / 8) c
+  words c = piece_word members ((elements + 7) / 8) c
 
   abbrev seen : ℕ → ℕ
   seen c = (column_of (words c) (pieces D)).seen
@@ -67,10 +79,10 @@ module _ (P : Plan) (D : DataSet) (k : ℕ) where
   bit_element : (c b i : ℕ) → b < 64 → bit (words c i) (b / 8 * 8 + (7 - b % 8)) ≡ supplied_bit P D k i (c * 64 + b)
   unfolding supplied_bit piece_bytes bit bytes_bits
   bit_element c b i l =
-      let at = member_start P D k + i * ((elements + 7) / 8) in
-      let place : at + 8 * c + (b / 8 * 8 + (7 - b % 8)) / 8 ≡ at + (c * 64 + b) / 8 = omega arith in
+      let at = i * ((elements + 7) / 8) in
+      let place : member_start P D k + (at + 8 * c + (b / 8 * 8 + (7 - b % 8)) / 8) ≡ member_start P D k + at + (c * 64 + b) / 8 = omega arith in
       let bit-place : (b / 8 * 8 + (7 - b % 8)) % 8 ≡ 7 - (c * 64 + b) % 8 = omega arith in
-      bit_number 64 _ (b / 8 * 8 + (7 - b % 8)) (omega arith) ∙ ap₂ (λ x y. bit (byte D.members x) y) place bit-place
+      bit_number 64 _ (b / 8 * 8 + (7 - b % 8)) (omega arith) ∙ rw get_or-drop (ap₂ (λ x y. bit (byte D.members x) y) place bit-place)
 
   bit-seen : (c b : ℕ) → b < 64 → bit (seen c) b ≡ any (pieces D) (λ i. supplied_bit P D k i (c * 64 + b))
   unfolding reversed_bits
@@ -121,14 +133,14 @@ module _ (P : Plan) (D : DataSet) (k : ℕ) where
         let range = both (sym (bit_word (between elements (8 * ((elements + 7) / 8))) c b lb) ∙ t.1) in
         right.pad_bits w.0 (c * 64 + b) w.1 (most range.0) (less range.1) w.2)
 
-    columns_kept : Is (columns_keep_flags D.members (member_start P D k) elements (pieces D) disjoint complete)
+    columns_kept : Is (columns_keep_flags members elements (pieces D) disjoint complete)
     columns_kept =
         every_of _ _ (λ c lc.
         pair (implies (λ d. same! (column_disjoint c d))) (pair (implies (λ d. same! (column_complete c d))) (same! (column_padded c))))
 
   -- where each column keeps the flags, they are kept
-  module _ (kept : Is (columns_keep_flags D.members (member_start P D k) elements (pieces D) disjoint complete)) where
-    at_column : (e : ℕ) → e < 8 * ((elements + 7) / 8) → Is (column_at D.members (member_start P D k) elements (pieces D) disjoint complete (e / 64))
+  module _ (kept : Is (columns_keep_flags members elements (pieces D) disjoint complete)) where
+    at_column : (e : ℕ) → e < 8 * ((elements + 7) / 8) → Is (column_at members elements (pieces D) disjoint complete (e / 64))
     at_column e l = every_at _ _ kept (e / 64) (omega arith)
 
     at_place : (e : ℕ) → e / 64 * 64 + e % 64 ≡ e
@@ -177,5 +189,5 @@ module _ (P : Plan) (D : DataSet) (k : ℕ) where
         }
 
   -- the test by columns is the test by elements
-  pub by_columns : declarations_hold P D k ≡ columns_keep_flags D.members (member_start P D k) elements (pieces D) disjoint complete
+  pub by_columns : declarations_hold P D k ≡ columns_keep_flags members elements (pieces D) disjoint complete
   by_columns = same_truth (λ h. columns_kept ((supplied_right P D k).0 h)) (λ h. (supplied_right P D k).1 (flags_kept h))

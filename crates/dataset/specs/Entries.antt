@@ -1,61 +1,37 @@
--- The entries of a data set's maps: of one map, as numbers, and of all, for every plan and data set of which these are the sections.
-use Rattle.std.specs.Prelude.{ℕ, ◌+◌, ◌*◌, ◌/◌, ◌≤◌, ◌<◌, ◌≡◌, Bool, List, get_or, length}
+-- The entries of a data set's maps: of one map, as numbers, and of all.
+use Rattle.std.specs.Prelude.{ℕ, ◌+◌, ◌*◌, ◌/◌, ◌≤◌, ◌≡◌, Bool, length}
 use Rattle.model.specs.Tests.{every, pick, ◌=?◌, ◌<?◌}
 use Rattle.model.specs.Bytes.{Bytes, u16}
-use Rattle.model.specs.Outcomes.{require, scan}
-use Rattle.model.specs.Layout.{Plan, map_count, source}
-use Rattle.model.specs.DataSets.{DataSet, NONE, size, entry_start, entries_check}
-use Rattle.model.specs.declared.Outcome.{Outcome}
+use Rattle.model.specs.Outcomes.{require, scan, Outcome}
+use Rattle.model.specs.Layout.{Plan, map_count}
+use Rattle.model.specs.DataSets.{DataSet, NONE, entries_check}
 use Rattle.model.specs.declared.Refusal.TheVariants.{InvalidEntry}
+use Rattle.dataset.specs.declared.layout.DataLayout.{DataLayout}
+use Rattle.dataset.specs.Layout.{EntriesPlaced}
 
--- the entries of one of few maps lie in their section
-pub record EntriesInside (entries : Bytes) (start count m : ℕ) : Type 0 where
-  pub inside : start + 2 * count ≤ length entries
-  pub map_below : m < 16
+-- whether an entry leads below the limit, or is none where the map is partial
+abbrev pub entry_fitting : ℕ → Bool → ℕ → Bool
+entry_fitting limit partial entry = pick (entry =? NONE) partial (entry <? limit)
 
-abbrev pub entry_fitting : ℕ → ℕ → Bool → Bool
-entry_fitting entry limit partial = pick (entry =? NONE) partial (entry <? limit)
+module _ (entries : Bytes) (limit : ℕ) (partial : Bool) where
+  -- whether entry k of the entries of one map does
+  abbrev pub entry_fits_at : ℕ → Bool
+  entry_fits_at k = entry_fitting limit partial (u16 entries (2 * k))
 
-abbrev pub entry_fits_at : Bytes → ℕ → ℕ → Bool → ℕ → Bool
-entry_fits_at entries start limit partial k = entry_fitting (u16 entries (start + 2 * k)) limit partial
+  abbrev pub entries_fitting : Bool
+  entries_fitting = every (length entries / 2) entry_fits_at
 
-abbrev pub entries_fitting : Bytes → ℕ → ℕ → ℕ → Bool → Bool
-entries_fitting entries start count limit partial = every count (entry_fits_at entries start limit partial)
+  -- their check
+  abbrev pub entries_from : ℕ → Outcome
+  entries_from m = scan (λ k. require (entry_fits_at k) (InvalidEntry (m * 512 + k))) 0 (length entries / 2)
 
-abbrev pub entry_check : Bytes → ℕ → ℕ → Bool → ℕ → ℕ → Outcome
-entry_check entries start limit partial m k = require (entry_fits_at entries start limit partial k) (InvalidEntry (m * 512 + k))
+-- refusal 13 of a data set
+abbrev pub all_entries : Plan → DataSet → Outcome
+all_entries P D = scan (entries_check P D) 0 (map_count P)
 
-abbrev pub entries_from : Bytes → ℕ → ℕ → ℕ → Bool → ℕ → Outcome
-entries_from entries start count limit partial m = scan (entry_check entries start limit partial m) 0 count
-
-module _ (P : Plan) (D : DataSet) where
-  -- a plan and a data set of these sections
-  pub record EntrySources (maps sizes entries : Bytes) : Type 0 where
-    pub maps_are : P.maps ≡ maps
-    pub sizes_are : D.sizes ≡ sizes
-    pub entries_are : D.entries ≡ entries
-
-  -- the maps' entries begin here and fill their section
-  pub record EntriesPlaced (starts : List ℕ) : Type 0 where
-    pub begin : (m : ℕ) → m < map_count P → get_or starts m 0 ≡ entry_start P D m
-    pub whole : length D.entries ≡ entry_start P D (map_count P)
-
-  -- refusal 13 of a data set
-  abbrev pub all_entries : Outcome
-  all_entries = scan (entries_check P D) 0 (map_count P)
-
--- the entries of map m can be read: they lie in their section
-pub record MapReady (maps sizes entries : Bytes) (start m : ℕ) : Type 0 where
-  pub map_below : m < 16
-  pub plan : Plan
-  pub set : DataSet
-  pub sources : EntrySources plan set maps sizes entries
-  pub inside : start + 2 * size set (source plan m) ≤ length entries
-
--- those of all maps can
-pub record EntriesReady (maps sizes entries : Bytes) (starts : List ℕ) : Type 0 where
+-- the entries of all maps can be read: they lie in their section, where the layout says
+pub record EntriesReady (maps : Bytes) (layout : DataLayout) : Type 0 where
   pub few_maps : length maps / 3 ≤ 16
   pub plan : Plan
-  pub set : DataSet
-  pub sources : EntrySources plan set maps sizes entries
-  pub placed : EntriesPlaced plan set starts
+  pub maps_are : plan.maps ≡ maps
+  pub placed : EntriesPlaced plan layout

@@ -1,4 +1,4 @@
 pub mod Columns
+pub mod Layout
 pub mod Entries
 pub mod Supplied
-pub mod Layout

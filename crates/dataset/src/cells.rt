@@ -5,6 +5,7 @@ ghost use Rattle.model.specs.DataSets.{DataSet, data_of, pieces, size};
 use primitives::bytes::{byte_at, u16_at};
 
 // The number of pieces: the byte behind the edition and the first section's length, where that is not 0.
+#[tactic(auto, using(crate::proofs::Framing::no_pieces, crate::proofs::Framing::pieces_read))]
 pub fn piece_count(data: &[u8]) -> usize
     ensures { (result ≡ pieces (data_of «data».now)) × (result < 256) }
 {
@@ -15,6 +16,7 @@ pub fn piece_count(data: &[u8]) -> usize
 }
 
 // The number of elements of a region.
+#[tactic(auto, unfolding(model::specs::DataSets::size))]
 pub fn region_size(sizes: &[u8], region: usize) -> usize
     requires { 2 * region < 2 ^ 64 }
     ensures { ((D : DataSet) → D.sizes ≡ sizes.now → result ≡ size D region) × (result < 65536) }

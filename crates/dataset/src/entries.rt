@@ -1,106 +1,90 @@
 // The entries of the maps: whether each leads to an element.
-ghost use Rattle.std.specs.Prelude.{◌≡◌, ◌+◌, ◌*◌, ◌≤◌, length};
+// Numbers are narrowed by `as`: the bound is proved, and `try_from` would have a case that never comes.
+ghost use Rattle.std.specs.Prelude.{◌≡◌, ◌*◌, ◌/◌, ◌≤◌, ◌<◌, length};
 ghost use Rattle.model.specs.Layout.{Plan};
-ghost use Rattle.model.specs.DataSets.{DataSet, entry_start, entries_check};
-ghost use Rattle.dataset.specs.Entries.{EntriesInside, entry_fitting, entries_fitting, entries_from, EntrySources, MapReady, EntriesPlaced, EntriesReady, all_entries};
+ghost use Rattle.model.specs.DataSets.{entries_check};
+ghost use Rattle.dataset.specs.Layout.{set_of, EntriesPlaced};
+ghost use Rattle.dataset.specs.Entries.{entry_fitting, entries_fitting, entries_from, EntriesReady, all_entries};
 
 use crate::cells::region_size;
+use crate::layout::DataLayout;
 use bitsets::words::u16_inside;
-use model::{Outcome, Refusal};
+use model::Refusal;
 use primitives::records::{map_source, map_target, map_totality};
 
-// Whether an entry leads to an element below the limit, or is none in a partial map.
-fn entry_fits(entry: u16, limit: u16, partial: bool) -> bool
-    ensures { result ≡ entry_fitting entry limit partial }
-{
-    if entry == 65535 {
-        partial
-    } else {
-        entry < limit
-    }
-}
+// The entry that leads to no element.
+const NONE: u16 = 65535;
 
-// Whether all entries of one map fit, from their start on.
-fn entries_fit(entries: &[u8], start: usize, count: usize, limit: u16, partial: bool) -> bool
-    requires { start + 2 * count ≤ length entries.now }
-    ensures { result ≡ entries_fitting entries.now start count limit partial }
-{
-    let mut fit = true;
-    let mut element = 0;
-    while element < count {
-        fit = fit & entry_fits(u16_inside(entries, start + 2 * element), limit, partial);
-        element += 1;
-    }
-    fit
-}
-
-// The first entry of one map that does not fit.
-fn find_invalid_entry(
-    entries: &[u8],
-    start: usize,
-    count: usize,
+// The entries of one map, two bytes each, all of which lead below the limit, or are none where the map is partial.
+#[derive(Clone, Copy)]
+struct MapEntries<'a> {
+    bytes: &'a [u8],
     limit: u16,
-    partial: bool,
-    map: usize,
-) -> Outcome
-    requires { EntriesInside entries.now start count map }
-    ensures { result ≡ entries_from entries.now start count limit partial map }
-{
-    let mut element = 0;
-    while element < count {
-        let entry = u16_inside(entries, start + 2 * element);
-        if !entry_fits(entry, limit, partial) {
-            return Outcome::Refuse(Refusal::InvalidEntry(map * 512 + element));
+    is_partial: bool,
+}
+
+impl MapEntries<'_> {
+    // Whether an entry leads to an element below the limit, or is none in a partial map.
+    #[tactic(auto, using(primitives::proofs::OpenTests::tests_open), unfolding(model::specs::Tests::pick))]
+    fn fits(&self, entry: u16) -> bool
+        ensures { result ≡ entry_fitting self.now.limit self.now.is_partial entry }
+    {
+        if entry == NONE {
+            self.is_partial
+        } else {
+            entry < self.limit
         }
-        element += 1;
     }
-    Outcome::Pass
-}
 
-// The entries of one map, from their start on: all at once, and one by one only for the first that does not fit.
-fn check_map_entries(
-    entries: &[u8],
-    start: usize,
-    count: usize,
-    limit: u16,
-    partial: bool,
-    map: usize,
-) -> Outcome
-    requires { EntriesInside entries.now start count map }
-    ensures { result ≡ entries_from entries.now start count limit partial map }
-{
-    if entries_fit(entries, start, count, limit, partial) {
-        Outcome::Pass
-    } else {
-        find_invalid_entry(entries, start, count, limit, partial, map)
+    // Whether all entries fit. It runs to its end, so that many are tested at once.
+    fn all_fit(&self) -> bool
+        ensures { result ≡ entries_fitting self.now.bytes.now self.now.limit self.now.is_partial }
+    {
+        self.bytes
+            .chunks_exact(2)
+            .fold(true, |fit, entry| fit & self.fits(u16_inside(entry, 0)))
+    }
+
+    // The check of all entries, one by one only where not all fit, to find the first that does not.
+    fn check(&self, map: usize) -> Result<(), Refusal>
+        requires { map < 16 }
+        ensures { result ≡ entries_from self.now.bytes.now self.now.limit self.now.is_partial map }
+    {
+        if self.all_fit() {
+            return Ok(());
+        }
+        let mut entries = self.bytes.chunks_exact(2);
+        match entries.position(|entry| !self.fits(u16_inside(entry, 0))) {
+            Some(element) => Err(Refusal::InvalidEntry(map * 512 + element)),
+            None => Ok(()),
+        }
     }
 }
 
 // The entries of one of the plan's maps.
-fn check_map(maps: &[u8], sizes: &[u8], entries: &[u8], start: usize, map: usize) -> Outcome
-    requires { MapReady maps.now sizes.now entries.now start map }
-    ensures { (P : Plan) (D : DataSet) → EntrySources P D maps.now sizes.now entries.now → start ≡ entry_start P D map → result ≡ entries_check P D map }
+fn check_map(maps: &[u8], layout: &DataLayout, map: usize) -> Result<(), Refusal>
+    requires ready { EntriesReady maps.now layout.now }
+    requires listed { map < length maps.now / 3 }
+    ensures { (P : Plan) → P.maps ≡ maps.now → EntriesPlaced P layout.now → result ≡ entries_check P (set_of layout.now) map }
 {
-    let count = region_size(sizes, map_source(maps, map));
-    let limit = region_size(sizes, map_target(maps, map)) as u16;
-    let partial = map_totality(maps, map) == 0;
-    check_map_entries(entries, start, count, limit, partial, map)
+    let start = layout.entry_starts[map];
+    let end = start + 2 * region_size(layout.sizes, map_source(maps, map));
+    let entries = MapEntries {
+        bytes: &layout.entries[start..end],
+        limit: region_size(layout.sizes, map_target(maps, map)) as u16,
+        is_partial: map_totality(maps, map) == 0,
+    };
+    entries.check(map)
 }
 
-// The entries of all maps, in order, where each map's begin as given.
-pub fn check_entries(maps: &[u8], sizes: &[u8], entries: &[u8], starts: &[usize; 16]) -> Outcome
-    requires { EntriesReady maps.now sizes.now entries.now starts.now }
-    ensures { (P : Plan) (D : DataSet) → EntrySources P D maps.now sizes.now entries.now → EntriesPlaced P D starts.now → result ≡ all_entries P D }
+// The entries of all maps, in order.
+#[tactic(auto, using(primitives::proofs::Scanning::scanned))]
+pub fn check_entries(maps: &[u8], layout: &DataLayout) -> Result<(), Refusal>
+    requires { EntriesReady maps.now layout.now }
+    ensures { (P : Plan) → P.maps ≡ maps.now → EntriesPlaced P layout.now → result ≡ all_entries P (set_of layout.now) }
 {
-    let count = maps.len() / 3;
-    let mut map = 0;
-    while map < count {
-        let start = starts[map];
-        match check_map(maps, sizes, entries, start, map) {
-            Outcome::Pass => {}
-            Outcome::Refuse(refusal) => return Outcome::Refuse(refusal),
-        }
-        map += 1;
+    for map in 0..maps.len() / 3 {
+        check_map(maps, layout, map)?;
     }
-    Outcome::Pass
+    Ok(())
 }

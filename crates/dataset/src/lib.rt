@@ -4,4 +4,5 @@
 pub mod cells;
 pub mod entries;
 pub mod layout;
+pub mod reading;
 pub mod supplied;

@@ -1,123 +1,134 @@
 // The supplied partitions: whether each keeps its flags.
-ghost use Rattle.std.specs.Prelude.{◌≡◌, ◌+◌, ◌/◌};
+ghost use Rattle.std.specs.Prelude.{◌≡◌, ◌+◌, ◌/◌, ◌≤◌, ◌<◌, length};
+ghost use Rattle.model.specs.Tests.{◌or◌, ◌=?◌};
 ghost use Rattle.model.specs.Layout.{Plan};
-ghost use Rattle.model.specs.DataSets.{DataSet, member_start, declarations_hold};
-ghost use Rattle.dataset.specs.Columns.{PiecesInside, ColumnOfRegion, ColumnInside, column_of, piece_word, column_keeps_flags, columns_keep_flags};
-ghost use Rattle.dataset.specs.Supplied.{SuppliedSources, PartitionReady, MembersPlaced, SuppliedReady, all_supplied};
+ghost use Rattle.model.specs.DataSets.{declarations_hold};
+ghost use Rattle.dataset.specs.Columns.{column_of, piece_word, column_at, columns_keep_flags};
+ghost use Rattle.dataset.specs.Layout.{set_of, MembersPlaced};
+ghost use Rattle.dataset.specs.Supplied.{SuppliedReady, all_supplied};
 
 use crate::cells::region_size;
+use crate::layout::DataLayout;
 use bitsets::words::{eight_bytes, reverse_bytes, word_below, word_between};
-use model::{Outcome, Refusal};
-use primitives::bytes::byte_at;
+use model::Refusal;
+use primitives::outcomes::require;
 use primitives::records::{supplied_flags, supplied_region};
+
+// What a supplied partition's flags declare it to be.
+const DISJOINT: usize = 1;
+
+const COMPLETE: usize = 2;
+
+const BOTH: usize = 3;
+
+// Whether the flags declare a partition to be that.
+#[tactic(auto, using(primitives::proofs::OpenTests::tests_open))]
+fn is_declared(flags: usize, flag: usize) -> bool
+    ensures { result ≡ (flags =? flag or flags =? 3) }
+{
+    flags == flag || flags == BOTH
+}
 
 // Eight bytes of each piece: the elements in some piece, and those in two.
 #[derive(Clone, Copy)]
-pub struct Column {
-    pub seen: u64,
-    pub repeated: u64,
+struct Column {
+    seen: u64,
+    repeated: u64,
 }
 
-// The elements of a column, of pieces of a region of so many elements.
-fn read_column(members: &[u8], start: usize, size: usize, column: usize, pieces: usize) -> Column
-    requires { ColumnInside members.now start size pieces column }
-    ensures { result ≡ column_of (piece_word members.now start ((size + 7) / 8) column) pieces }
-{
-    let width = (size + 7) / 8;
-    let mut seen = 0;
-    let mut repeated = 0;
-    let mut piece = 0;
-    while piece < pieces {
-        let word = eight_bytes(members, start + piece * width + 8 * column);
-        repeated = repeated | (seen & word);
-        seen = seen | word;
-        piece += 1;
-    }
-    Column {
-        seen: reverse_bytes(seen),
-        repeated: reverse_bytes(repeated),
-    }
-}
-
-// Whether a column has no element in two pieces, none missing, where that is declared, and no bit behind the last element.
-fn column_keeps_flags(
-    bits: Column,
-    size: usize,
-    column: usize,
-    disjoint: bool,
-    complete: bool,
-) -> bool
-    requires { ColumnOfRegion size column }
-    ensures { result ≡ column_keeps_flags disjoint complete size column bits }
-{
-    let elements = word_below(size, column);
-    let pad = word_between(size, 8 * ((size + 7) / 8), column);
-    (!disjoint | ((bits.repeated & elements) == 0))
-        & ((!complete | ((bits.seen & elements) == elements)) & ((bits.seen & pad) == 0))
-}
-
-// Whether the pieces of a region of so many elements, from a start on, keep the flags.
-fn columns_keep_flags(
-    members: &[u8],
-    start: usize,
+// The pieces of one supplied partition, over a region of so many elements: the members from its first piece on, and whether
+// it is declared disjoint and complete.
+#[derive(Clone, Copy)]
+struct SuppliedPieces<'a> {
+    members: &'a [u8],
     size: usize,
     pieces: usize,
-    disjoint: bool,
-    complete: bool,
-) -> bool
-    requires { PiecesInside members.now start size pieces }
-    ensures { result ≡ columns_keep_flags members.now start size pieces disjoint complete }
-{
-    let columns = (size + 63) / 64;
-    let mut right = true;
-    let mut column = 0;
-    while column < columns {
-        let bits = read_column(members, start, size, column, pieces);
-        right = right & column_keeps_flags(bits, size, column, disjoint, complete);
-        column += 1;
+    is_disjoint: bool,
+    is_complete: bool,
+    ghost few_pieces: { pieces ≤ 16 },
+    ghost small_region: { size ≤ 512 },
+}
+
+impl SuppliedPieces<'_> {
+    // The bytes of a piece.
+    fn width(&self) -> usize
+        ensures { result ≡ (self.now.size + 7) / 8 }
+    {
+        (self.size + 7) / 8
     }
-    right
+
+    // The elements of a column.
+    #[tactic(auto, using(crate::proofs::Columns::united_next, crate::proofs::Columns::repeated_next), unfolding(crate::specs::Columns::united, crate::specs::Columns::repeated))]
+    fn read_column(&self, column: usize) -> Column
+        requires { column < 8 }
+        ensures { result ≡ column_of (piece_word self.now.members.now ((self.now.size + 7) / 8) column) self.now.pieces }
+    {
+        let members = self.members;
+        let width = self.width();
+        let mut seen = 0;
+        let mut repeated = 0;
+        for piece in 0..self.pieces {
+            let word = eight_bytes(members, piece * width + 8 * column);
+            repeated |= seen & word;
+            seen |= word;
+        }
+        Column {
+            seen: reverse_bytes(seen),
+            repeated: reverse_bytes(repeated),
+        }
+    }
+
+    // Whether a column has no element in two pieces, none missing, where that is declared, and no bit behind the last element.
+    #[tactic(auto, using(primitives::proofs::OpenTests::tests_open))]
+    fn column_keeps_flags(&self, column: usize) -> bool
+        requires { column < 8 }
+        ensures { result ≡ column_at self.now.members.now self.now.size self.now.pieces self.now.is_disjoint self.now.is_complete column }
+    {
+        let bits = self.read_column(column);
+        let elements = word_below(self.size, column);
+        let pad = word_between(self.size, 8 * self.width(), column);
+        (!self.is_disjoint | ((bits.repeated & elements) == 0))
+            & ((!self.is_complete | ((bits.seen & elements) == elements))
+                & ((bits.seen & pad) == 0))
+    }
+
+    // Whether each column does.
+    fn keep_flags(&self) -> bool
+        ensures { result ≡ columns_keep_flags self.now.members.now self.now.size self.now.pieces self.now.is_disjoint self.now.is_complete }
+    {
+        (0..(self.size + 63) / 64).all(|column| self.column_keeps_flags(column))
+    }
 }
 
 // Whether one of the plan's supplied partitions keeps its flags.
-fn partition_keeps_flags(
-    supplied: &[u8],
-    piece_count: &[u8],
-    sizes: &[u8],
-    members: &[u8],
-    start: usize,
-    partition: usize,
-) -> bool
-    requires { PartitionReady supplied.now piece_count.now sizes.now members.now start partition }
-    ensures { (P : Plan) (D : DataSet) → SuppliedSources P D supplied.now piece_count.now sizes.now members.now → start ≡ member_start P D partition → result ≡ declarations_hold P D partition }
+fn partition_keeps_flags(supplied: &[u8], layout: &DataLayout, partition: usize) -> bool
+    requires ready { SuppliedReady supplied.now layout.now }
+    requires listed { partition < length supplied.now / 2 }
+    ensures { (P : Plan) → P.supplied ≡ supplied.now → MembersPlaced P layout.now → result ≡ declarations_hold P (set_of layout.now) partition }
 {
-    let size = region_size(sizes, supplied_region(supplied, partition));
+    let start = layout.member_starts[partition];
     let flags = supplied_flags(supplied, partition);
-    let pieces = byte_at(piece_count, 0);
-    let disjoint = (flags == 1) | (flags == 3);
-    let complete = (flags == 2) | (flags == 3);
-    columns_keep_flags(members, start, size, pieces, disjoint, complete)
+    let pieces = SuppliedPieces {
+        members: &layout.members[start..],
+        size: region_size(layout.sizes, supplied_region(supplied, partition)),
+        pieces: layout.pieces,
+        is_disjoint: is_declared(flags, DISJOINT),
+        is_complete: is_declared(flags, COMPLETE),
+    };
+    pieces.keep_flags()
 }
 
-// The flags of all supplied partitions, in order, where each one's members begin as given.
-pub fn check_supplied(
-    supplied: &[u8],
-    piece_count: &[u8],
-    sizes: &[u8],
-    members: &[u8],
-    starts: &[usize; 8],
-) -> Outcome
-    requires { SuppliedReady supplied.now piece_count.now sizes.now members.now starts.now }
-    ensures { (P : Plan) (D : DataSet) → SuppliedSources P D supplied.now piece_count.now sizes.now members.now → MembersPlaced P D starts.now → result ≡ all_supplied P D }
+// The flags of all supplied partitions, in order.
+#[tactic(auto, using(primitives::proofs::Scanning::scanned))]
+pub fn check_supplied(supplied: &[u8], layout: &DataLayout) -> Result<(), Refusal>
+    requires { SuppliedReady supplied.now layout.now }
+    ensures { (P : Plan) → P.supplied ≡ supplied.now → MembersPlaced P layout.now → result ≡ all_supplied P (set_of layout.now) }
 {
-    let count = supplied.len() / 2;
-    let mut partition = 0;
-    while partition < count {
-        let start = starts[partition];
-        if !partition_keeps_flags(supplied, piece_count, sizes, members, start, partition) {
-            return Outcome::Refuse(Refusal::InvalidPartition(partition));
-        }
-        partition += 1;
+    for partition in 0..supplied.len() / 2 {
+        require(
+            partition_keeps_flags(supplied, layout, partition),
+            Refusal::InvalidPartition(partition),
+        )?;
     }
-    Outcome::Pass
+    Ok(())
 }

@@ -1,4 +1,3 @@
-pub mod DataParts
 pub mod Stages
 pub mod Spans
 pub mod OnePiece

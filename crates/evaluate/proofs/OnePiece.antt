@@ -12,32 +12,29 @@ use Rattle.model.specs.Words.{holds, word}
 use Rattle.model.proofs.Words.{store_length, store_same}
 use Rattle.model.proofs.FinalWords.{rows_hold}
 use Rattle.subregions.specs.declared.Span.{Span}
-use Rattle.subregions.specs.Fill.{span_word, span_filled}
+use Rattle.subregions.specs.Fill.{SpanFits, span_word, span_filled}
 use Rattle.subregions.proofs.AllNodes.{all_filled}
 use Rattle.subregions.proofs.NeededNodes.{ALL, all_needed, all_operands}
-use Rattle.plan.specs.declared.Reading.{Reading}
-use Rattle.dataset.specs.declared.layout.DataLayout.{DataLayout}
-use Rattle.evaluate.specs.Words.{SpanReady, PieceReady, piece_filled}
+use Rattle.evaluate.specs.Inputs.{plan_given, data_given}
+use Rattle.evaluate.specs.Words.{PieceReady, piece_filled}
+use Rattle.evaluate.specs.declared.inputs.Inputs.{Inputs}
 
 -- one piece of so many nodes
 abbrev pub one : ℕ → ℕ → ℕ → Span
 one nodes piece N = record { nodes = nodes; needed = ALL; pieces = N; first = piece; count = 1 }
 
-pub one_ready : {p d : Bytes} {reading : Reading} {layout : DataLayout} {node piece N lent : ℕ} → PieceReady p reading d layout node piece lent → N ≡ pieces (data_of d)
-    → SpanReady p reading d layout (one (node + 1) piece N) lent
-one_ready ready counted =
+pub one_fits : {inputs : Inputs} {node piece N lent : ℕ} → PieceReady inputs node piece lent → N ≡ pieces (data_given inputs) →
+    SpanFits (plan_given inputs) (data_given inputs) (one (node + 1) piece N) lent
+one_fits {inputs} ready counted =
     let listed = ready.node_listed in
     let piece_listed = ready.piece_listed in
     let enough = ready.enough in
     record {
-      inputs = ready.inputs;
-      span_fits = record {
-        nodes_listed = omega arith;
-        operands_needed = all_operands ready.inputs.accepted.facts (omega arith) (omega (arith, ready.inputs.accepted.limits.few_nodes));
-        pieces_are = counted;
-        pieces_listed = omega arith;
-        enough = omega arith;
-      };
+      nodes_listed = omega arith;
+      operands_needed = all_operands inputs.reading.facts (omega arith) (omega (arith, inputs.reading.sections.limits.few_nodes));
+      pieces_are = counted;
+      pieces_listed = omega arith;
+      enough = omega arith;
     }
 
 module _ (P : Plan) (D : DataSet) (piece nodes : ℕ) (old : List ℕ) where

@@ -1,48 +1,34 @@
 -- When the words of an evaluation can be filled, and what some nodes, or one piece of the first, fill them with.
 use Rattle.std.specs.Prelude.{ℕ, ◌+◌, ◌*◌, ◌/◌, ◌%◌, ◌≤◌, ◌<◌, ◌≡◌, List, length}
 use Rattle.model.specs.Tests.{Is}
-use Rattle.model.specs.Bytes.{Bytes}
-use Rattle.model.specs.Layout.{Plan, plan_of, node_count}
-use Rattle.model.specs.DataSets.{DataSet, data_of, pieces, data_check}
+use Rattle.model.specs.Layout.{Plan, node_count}
+use Rattle.model.specs.DataSets.{DataSet, pieces}
 use Rattle.model.specs.Membership.{member}
 use Rattle.model.specs.Words.{bit, holds, word, store}
-use Rattle.model.specs.Evaluation.{words_needed}
-use Rattle.model.specs.declared.Outcome.TheVariants.{Pass}
-use Rattle.plan.specs.declared.Reading.{Reading}
-use Rattle.plan.specs.Reading.{AcceptedReading}
-use Rattle.dataset.specs.declared.layout.DataLayout.{DataLayout}
-use Rattle.dataset.specs.Layout.{DataPlaced}
-use Rattle.subregions.specs.declared.Span.{Span}
-use Rattle.subregions.specs.Fill.{SpanFits}
+use Rattle.evaluate.specs.Inputs.{plan_given, data_given}
+use Rattle.evaluate.specs.declared.inputs.Inputs.{Inputs}
+use Rattle.subregions.specs.declared.sources.Sources.{Sources}
 
--- the plan was accepted, the data set fits it, and their parts are where reading and layout say
-pub record InputsReady (p : Bytes) (reading : Reading) (d : Bytes) (layout : DataLayout) : Type 0 where
-  pub accepted : AcceptedReading p reading
-  pub fits : data_check (plan_of p) d ≡ Pass
-  pub placed : DataPlaced (plan_of p) d layout
+-- what the nodes' sets are read from is that of the inputs
+pub record SourcesOf (inputs : Inputs) (read : Sources) : Type 0 where
+  pub nodes_are : read.nodes.now ≡ inputs.reading.sections.nodes.now
+  pub node_regions_are : read.node_regions.now ≡ inputs.reading.node_regions
+  pub sizes_are : read.sizes.now ≡ inputs.layout.sizes.now
+  pub entries_are : read.entries.now ≡ inputs.layout.entries.now
+  pub members_are : read.members.now ≡ inputs.layout.members.now
+  pub entry_starts_are : read.entry_starts.now ≡ inputs.layout.entry_starts
+  pub member_starts_are : read.member_starts.now ≡ inputs.layout.member_starts
 
--- and words enough for all nodes are lent
-pub record WordsReady (p : Bytes) (reading : Reading) (d : Bytes) (layout : DataLayout) (lent : ℕ) : Type 0 where
-  pub inputs : InputsReady p reading d layout
-  pub enough : words_needed (plan_of p) (data_of d) ≤ lent
+-- so many of the first nodes, and words enough for all their pieces
+pub record WantedReady (inputs : Inputs) (nodes lent : ℕ) : Type 0 where
+  pub nodes_listed : nodes ≤ node_count (plan_given inputs)
+  pub enough : nodes * pieces (data_given inputs) * 8 ≤ lent
 
--- or for the first nodes
-pub record WantedReady (p : Bytes) (reading : Reading) (d : Bytes) (layout : DataLayout) (nodes lent : ℕ) : Type 0 where
-  pub inputs : InputsReady p reading d layout
-  pub nodes_listed : nodes ≤ node_count (plan_of p)
-  pub enough : nodes * pieces (data_of d) * 8 ≤ lent
-
--- or for one piece of the nodes up to one of them, and both exist
-pub record PieceReady (p : Bytes) (reading : Reading) (d : Bytes) (layout : DataLayout) (node piece lent : ℕ) : Type 0 where
-  pub inputs : InputsReady p reading d layout
-  pub node_listed : node < node_count (plan_of p)
-  pub piece_listed : piece < pieces (data_of d)
+-- a node and a piece that exist, and words enough for one piece of the nodes up to it
+pub record PieceReady (inputs : Inputs) (node piece lent : ℕ) : Type 0 where
+  pub node_listed : node < node_count (plan_given inputs)
+  pub piece_listed : piece < pieces (data_given inputs)
   pub enough : (node + 1) * 8 ≤ lent
-
--- or for any span of nodes and pieces
-pub record SpanReady (p : Bytes) (reading : Reading) (d : Bytes) (layout : DataLayout) (span : Span) (lent : ℕ) : Type 0 where
-  pub inputs : InputsReady p reading d layout
-  pub span_fits : SpanFits (plan_of p) (data_of d) span lent
 
 -- the words of the first nodes hold the sets of those that are wanted, where the final words have them
 pub record WantedFilled (P : Plan) (D : DataSet) (nodes wanted lent : ℕ) (words : List ℕ) : Type 0 where

@@ -1,97 +1,58 @@
 // What a case does with the plan and the data set that it has built.
-ghost use Rattle.std.specs.Prelude.{◌≤◌, length};
-
-use crate::tokens::next_number;
-use answers::report_answer;
+// By `as`: there is no `From` between `usize` and `u64`, and `try_from` would have a case that never comes.
+use crate::tokens::Words;
 use dataset::cells::piece_count;
-use evaluate::evaluate;
 use listing::{print_answer, print_charge, print_node};
 use std::io;
 use std::io::Write;
-use transfer::charge;
 
-// Prints the name of a case.
-pub fn print_name<W: Write>(out: &mut W, name: &[u8]) -> io::Result<()> {
-    out.write_all(name)?;
-    out.write_all(b": ")
+// As many words as any plan needs.
+pub const MOST_WORDS: usize = 6144;
+
+// The plan and the data set that a case has built.
+#[derive(Clone, Copy)]
+pub struct Built<'a> {
+    pub plan: &'a [u8],
+    pub data: &'a [u8],
 }
 
-// Prints a word that no line begins with.
-pub fn print_unknown<W: Write>(out: &mut W, word: &[u8]) -> io::Result<()> {
-    out.write_all(b"unknown word ")?;
-    out.write_all(word)?;
-    out.write_all(b"\n")
-}
-
-// The first bytes of a buffer; all of it where there are not so many.
-pub fn first_bytes(buffer: &[u8], length: usize) -> &[u8] {
-    if length <= buffer.len() {
-        &buffer[0..length]
-    } else {
-        buffer
+impl Built<'_> {
+    // Checks the plan, and prints the answer.
+    pub fn check<W: Write>(self, out: &mut W) -> io::Result<()> {
+        print_answer(out, plan::check(self.plan))
     }
-}
 
-// Checks a plan, and prints the answer.
-pub fn run_check<W: Write>(out: &mut W, plan: &[u8]) -> io::Result<()> {
-    print_answer(out, plan::check(plan))
-}
-
-// Prints the members of each node's pieces; there are at most 48 nodes.
-fn print_nodes<W: Write>(out: &mut W, data: &[u8], words: &[u64], nodes: usize) -> io::Result<()> {
-    let pieces = piece_count(data);
-    let mut node = 0;
-    while node < 48 {
-        if nodes <= node {
+    // Evaluates the plan with so many words lent, at most 6144, all of whose bits are 1 before, and prints the answer and the members.
+    pub fn evaluate<W: Write>(self, out: &mut W, lent: usize) -> io::Result<()> {
+        let mut words = [u64::MAX; MOST_WORDS];
+        let Some(lent_words) = words.get_mut(..lent) else {
             return Ok(());
-        }
-        print_node(out, node, node, pieces, words)?;
-        node += 1;
-    }
-    Ok(())
-}
-
-// Evaluates a plan over a data set, and prints the answer and the members.
-fn evaluate_into<W: Write>(
-    out: &mut W,
-    plan: &[u8],
-    data: &[u8],
-    words: &mut [u64],
-    lent: usize,
-) -> io::Result<()> {
-    if lent <= words.len() {
-        let answer = evaluate(plan, data, &mut words[0..lent]);
+        };
+        let answer = evaluate::evaluate(self.plan, self.data, lent_words);
         print_answer(out, answer)?;
-        let report = report_answer(answer);
-        print_nodes(out, data, words, report.nodes)?;
+        if let Ok(acceptance) = answer {
+            self.print_nodes(out, &words, acceptance.nodes)?;
+        }
+        Ok(())
     }
-    Ok(())
-}
 
-// Evaluates a plan over a data set with so many words lent, at most 6144, all of whose bits are 1 before.
-pub fn run_evaluate<W: Write>(
-    out: &mut W,
-    plan: &[u8],
-    data: &[u8],
-    lent: usize,
-) -> io::Result<()> {
-    let mut words = [18446744073709551615u64; 6144];
-    evaluate_into(out, plan, data, &mut words, lent)
-}
+    // Prints the members of each node's pieces; there are at most 48 nodes.
+    fn print_nodes<W: Write>(self, out: &mut W, words: &[u64], nodes: usize) -> io::Result<()> {
+        let pieces = piece_count(self.data);
+        for node in 0..nodes.min(48) {
+            print_node(out, node, node, pieces, words)?;
+        }
+        Ok(())
+    }
 
-// Charges for the two nodes and the price that the rest of a line names, and prints the charge.
-pub fn run_charge<W: Write>(
-    out: &mut W,
-    plan: &[u8],
-    data: &[u8],
-    line: &[u8],
-    from: usize,
-) -> io::Result<()>
-    requires { from ≤ length line.now }
-{
-    let accessed = next_number(line, from, 0);
-    let owned = next_number(line, accessed.to, 0);
-    let price = next_number(line, owned.to, 0);
-    let answer = charge(plan, data, accessed.value, owned.value, price.value as u64);
-    print_charge(out, answer)
+    // Charges for the two nodes and the price that a line names, and prints the charge.
+    pub fn charge<W: Write>(self, out: &mut W, mut words: Words<'_>) -> io::Result<()> {
+        let accessed = words.number_or(0);
+        let owned = words.number_or(0);
+        let price = words.number_or(0);
+        print_charge(
+            out,
+            transfer::charge(self.plan, self.data, accessed, owned, price as u64),
+        )
+    }
 }

@@ -1,7 +1,7 @@
 // Plans and data sets, put together byte by byte.
-ghost use Rattle.std.specs.Prelude.{◌≤◌, ◌<◌, length};
-
-use crate::tokens::{next_word, number};
+// Numbers are narrowed by `as`: the bound is proved, and `try_from` would have a case that never comes.
+use crate::tokens::{Words, number};
+use std::alloc::{AllocError, Global};
 
 // How a word of a case is laid out: a number in one byte or in two, or elements as bits, the highest first.
 #[derive(Clone, Copy)]
@@ -11,145 +11,99 @@ pub enum Unit {
     Bits,
 }
 
-// How long what is being built is, and where the length of the open section stands; 0 where none is open.
-#[derive(Clone, Copy)]
-pub struct Place {
-    pub end: usize,
-    pub section: usize,
+// What is being built: its bytes, for so many of which there is room, and where the open section begins with its length.
+#[derive(Drop)]
+pub struct Draft {
+    bytes: Vec<u8>,
+    room: usize,
+    section: Option<usize>,
 }
 
-// Stores the low byte of a number, if there is room.
-fn store(buffer: &mut [u8], at: usize, value: usize) {
-    if at < buffer.len() {
-        buffer[at] = (value % 256) as u8;
-    }
-}
-
-// Adds one to the length that stands at a place; at place 0 stands none.
-fn lengthen(buffer: &mut [u8], at: usize) {
-    if at == 0 {
-        return;
-    }
-    if at < buffer.len() {
-        let length = primitives::bytes::u16_at(buffer, at) + 1;
-        store(buffer, at, length / 256);
-        store(buffer, at + 1, length);
-    }
-}
-
-// Appends the low byte of a number, if there is room, and counts it in the open section's length.
-fn append_byte(buffer: &mut [u8], place: Place, value: usize) -> Place {
-    let end = place.end;
-    let section = place.section;
-    if end < buffer.len() {
-        store(buffer, end, value);
-        lengthen(buffer, section);
-        Place {
-            end: end + 1,
-            section,
+impl Draft {
+    pub fn new(alloc: Global, room: usize) -> Self {
+        Draft {
+            bytes: Vec::new(alloc),
+            room,
+            section: None,
         }
-    } else {
-        place
     }
-}
 
-// Opens a section: its length, still 0, and what is appended from now on is its body.
-fn open_section(buffer: &mut [u8], place: Place) -> Place {
-    let start = place.end;
-    let outside = Place {
-        end: start,
-        section: 0,
-    };
-    let high = append_byte(buffer, outside, 0);
-    let low = append_byte(buffer, high, 0);
-    Place {
-        end: low.end,
-        section: start,
+    pub fn bytes(&self) -> &[u8] {
+        self.bytes.as_slice()
     }
-}
 
-// The bit that is written at a place; 0 past the end.
-fn bit_at(word: &[u8], at: usize) -> usize
-    ensures { result < 2 }
-{
-    if primitives::bytes::byte_at(word, at) == b'1' as usize {
-        1
-    } else {
-        0
+    // Begins anew.
+    pub fn clear(&mut self) {
+        self.bytes.clear();
+        self.section = None;
     }
-}
 
-// The byte of the eight bits that are written from a place on.
-fn eight_bits(word: &[u8], from: usize) -> usize
-    requires { from < length word.now }
-{
-    let mut value = 0;
-    let mut bit = 0;
-    while bit < 8 {
-        value = (value * 2 + bit_at(word, from + bit)) % 256;
-        bit += 1;
+    // What is appended from now on is outside any section.
+    pub fn close(&mut self) {
+        self.section = None;
     }
-    value
-}
 
-// Appends bits, eight to a byte.
-fn append_bits(buffer: &mut [u8], place: Place, word: &[u8]) -> Place {
-    let mut next = place;
-    let mut at = 0;
-    while at < word.len() {
-        next = append_byte(buffer, next, eight_bits(word, at));
-        at += 8;
+    // What is appended from now on is the body of a section, whose length is 0 still. None is counted that stands before any edition.
+    pub fn open(&mut self) -> Result<(), AllocError> {
+        let start = self.bytes.len();
+        self.push(0)?;
+        self.push(0)?;
+        self.section = (start > 0).then_some(start);
+        Ok(())
     }
-    next
-}
 
-// Appends a word as its unit says.
-fn append_word(buffer: &mut [u8], place: Place, unit: Unit, word: &[u8]) -> Place {
-    match unit {
-        Unit::Byte => append_byte(buffer, place, number(word)),
-        Unit::Wide => {
-            let value = number(word);
-            let high = append_byte(buffer, place, value / 256);
-            append_byte(buffer, high, value)
+    // Appends words as their unit says.
+    pub fn append(&mut self, unit: Unit, words: Words<'_>) -> Result<(), AllocError> {
+        for word in words {
+            self.append_word(unit, word)?;
         }
-        Unit::Bits => append_bits(buffer, place, word),
+        self.write_length();
+        Ok(())
     }
-}
 
-// Appends the words of a line from a place on.
-fn append_words(buffer: &mut [u8], place: Place, unit: Unit, line: &[u8], from: usize) -> Place
-    requires { from ≤ length line.now }
-{
-    let mut next = place;
-    let mut at = from;
-    while at < line.len() {
-        let word = next_word(line, at);
-        let start = word.from;
-        let end = word.to;
-        if start == end {
-            return next;
+    fn append_word(&mut self, unit: Unit, word: &[u8]) -> Result<(), AllocError> {
+        match unit {
+            Unit::Byte => self.push((number(word) % 256) as u8),
+            Unit::Wide => {
+                let [high, low] = ((number(word) % 65536) as u16).to_be_bytes();
+                self.push(high)?;
+                self.push(low)
+            }
+            Unit::Bits => {
+                for bits in word.chunks(8) {
+                    self.push(eight_bits(bits))?;
+                }
+                Ok(())
+            }
         }
-        next = append_word(buffer, next, unit, &line[start..end]);
-        at = end;
     }
-    next
+
+    // Appends a byte, if there is room.
+    fn push(&mut self, byte: u8) -> Result<(), AllocError> {
+        if self.bytes.len() < self.room {
+            self.bytes.push(byte)?;
+        }
+        Ok(())
+    }
+
+    // Writes how long the open section is.
+    fn write_length(&mut self) {
+        let Some(start) = self.section else {
+            return;
+        };
+        let Some(section) = self.bytes.as_mut_slice().get_mut(start..) else {
+            return;
+        };
+        if let [high, low, body @ ..] = section {
+            [*high, *low] = ((body.len() % 65536) as u16).to_be_bytes();
+        }
+    }
 }
 
-// Opens a section, if the line asks for that, and appends the words of the line from a place on.
-pub fn extend(
-    buffer: &mut [u8],
-    place: Place,
-    opens: bool,
-    unit: Unit,
-    line: &[u8],
-    from: usize,
-) -> Place
-    requires { from ≤ length line.now }
-{
-    if opens {
-        let opened = open_section(buffer, place);
-        append_words(buffer, opened, unit, line, from)
-    } else {
-        append_words(buffer, place, unit, line, from)
-    }
+// The byte of eight bits that are written; those that are not are 0.
+fn eight_bits(bits: &[u8]) -> u8 {
+    (0..8).fold(
+        0u8,
+        |byte, place| (byte << 1) | u8::from(bits.get(place).is_some_and(|bit| *bit == b'1')),
+    )
 }

@@ -25,47 +25,53 @@ mod cases;
 mod explaining;
 mod tokens;
 
-use cases::{nothing_built, run_line};
+use cases::Case;
 use files::read_file;
+use std::alloc::Global;
 use std::io;
-use std::io::Write;
+use std::io::{BufWriter, Write};
 use std::rt::{Env, Files};
-use tokens::find;
+
+// A file of cases is shorter.
+const TOO_LONG: usize = 65_536;
 
 // Runs the cases of a text.
-fn run_cases<W: Write>(
-    out: &mut W,
-    text: &[u8],
-    plan: &mut [u8],
-    data: &mut [u8],
-) -> io::Result<()> {
-    let mut progress = nothing_built();
-    let mut at = 0;
-    while at < text.len() {
-        let end = find(text, at, b'\n');
-        let line = &text[at..end];
-        let code = find(line, 0, b'#');
-        progress = run_line(out, progress, &line[0..code], plan, data)?;
-        at = end + 1;
+fn run_cases<W: Write>(out: &mut W, alloc: Global, text: &[u8]) -> io::Result<()> {
+    let mut case = Case::new(alloc);
+    for line in text.split(|byte| *byte == b'\n') {
+        case.run_line(out, without_comment(line))?;
     }
     Ok(())
 }
 
-// Runs the cases of a file, which has fewer than 65,536 bytes.
-fn run_file<R: Files + Print + Eprint>(rt: &R, path: &[u8]) -> io::Result<()> {
-    let mut text = [0u8; 65536];
-    let file = read_file(rt, path, &mut text);
-    let length = file.length;
-    if length == 65536 {
+// What stands before the comment of a line.
+fn without_comment(line: &[u8]) -> &[u8] {
+    let end = line
+        .iter()
+        .position(|byte| *byte == b'#')
+        .unwrap_or(line.len());
+    &line[..end]
+}
+
+// Runs the cases of a file.
+fn run_file<R: Files + Print + Eprint + AllocGlobal>(rt: &R, path: &[u8]) -> io::Result<()> {
+    let Some(text) = read_file(rt, path, TOO_LONG) else {
+        return Ok(());
+    };
+    if text.len() == TOO_LONG {
         return eprintln!(rt; "a file of cases is too long");
     }
-    let mut plan = [0u8; 131072];
-    let mut data = [0u8; 32768];
-    run_cases(&mut io::writer(rt), &text[..length], &mut plan, &mut data)
+    let mut out = BufWriter::new(rt.alloc(), io::writer(rt))?;
+    run_cases(&mut out, rt.alloc(), text.as_slice())?;
+    out.flush()
 }
 
 // Runs the file that an argument names, and answers whether there is such an argument.
-fn run_argument<R: Env + Files + Print + Eprint>(rt: &R, number: usize) -> io::Result<bool> {
+fn run_argument<R: Env + Files + Print + Eprint + AllocGlobal>(
+    rt: &R,
+    number: usize,
+) -> io::Result<bool> {
+    // Not `env::args`, which fails for all arguments if one is not UTF-8: that one alone is named on standard error.
     let mut path = [0u8; 4096];
     let Ok(length) = rt.arg(number, &mut path) else {
         return Ok(false);
@@ -75,12 +81,10 @@ fn run_argument<R: Env + Files + Print + Eprint>(rt: &R, number: usize) -> io::R
 }
 
 fn main(rt: HostRuntime) -> io::Result<()> {
-    let mut number = 1;
-    while number < 64 {
+    for number in 1..64 {
         if !run_argument(&rt, number)? {
-            return Ok(());
+            break;
         }
-        number += 1;
     }
     Ok(())
 }

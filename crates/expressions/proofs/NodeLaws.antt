@@ -1,39 +1,42 @@
 -- Section 5: a record's region and key, the checks of a node in order, and the tables of the nodes so far. Assumes nothing.
-use Prim.Native.Nat.{ℕ, ◌+◌, ◌*◌, ◌/◌, ◌≤◌, ◌<◌}
+use Prim.Native.Nat.{ℕ, zero, suc, min, ◌+◌, ◌≤◌, ◌<◌}
 use mathlib.Core.Path.{◌≡◌, refl, sym, ◌∙◌}
-use mathlib.Core.Bool.{Bool, false, and-true}
-use mathlib.Core.Logic.{◌⊎◌, inl, inr}
+use mathlib.Core.Bool.{Bool, true, false, and-true}
+use mathlib.Core.Logic.{inl, inr}
 use mathlib.Core.List.{List}
 use native.Mathlib.Omega.{arith}
-use lib.ListN.{get_or, length, set}
+use lib.ListN.{get_or, length, set, take}
+use denote.Enum.Bare.{sameb}
 use denote.Enum.Declared.{tag_of}
-use Rattle.model.specs.Tests.{Is, ◌and◌, non, ◌=?◌, ◌<?◌}
-use Rattle.model.specs.Bytes.{Bytes}
+use Rattle.std.specs.Prelude.{Ok, Err}
+use Rattle.std.proofs.lemmas.List.Folds.{list_any_more}
+use Rattle.std.specs.Bool.{then_some, nat_eq}
+use Rattle.std.specs.List.{list_any}
+use native.Mathlib.Numerals.{add-one}
+use Rattle.std.specs.Option.{ok_or}
+use Rattle.model.specs.Tests.{Is, ◌and◌, ◌or◌, any, ◌=?◌, ◌<?◌}
 use Rattle.model.specs.Recursion.{below}
-use Rattle.model.specs.Outcomes.{require, ◌then◌}
-use Rattle.model.specs.Layout.{Plan, node_count, node_a, node_b, node_kind, node_unused}
+use Rattle.model.specs.Outcomes.{require}
+use Rattle.model.specs.Layout.{Plan, node_count, node_a, node_kind, node_unused}
 use Rattle.model.specs.Nodes.{node_kind_of, node_kind_at, node_check, duplicate_node, same_node, operands_earlier, operand_and_map, node_formed_by, node_formed, operands_of_one_region, node_agrees_by, node_agrees, node_region_by, node_region, node_region_step}
 use Rattle.model.specs.declared.NodeKind.{NodeKind}
 use Rattle.model.specs.declared.NodeKind.TheVariants.{Supplied, Equal, Union, Intersection, Difference, Image, Preimage, Unknown}
-use Rattle.model.specs.declared.Refusal.TheVariants.{InvalidRecord, RegionMismatch, DuplicateNode}
-use Rattle.model.specs.declared.Outcome.TheVariants.{Pass, Refuse}
+use Rattle.model.specs.declared.Refusal.{Refusal}
 use Rattle.model.specs.contracts.NodeKind.{the_type}
-use Rattle.model.proofs.Tests.{both, pair, same, same!, less, latest, same_truth, fails, refuted}
+use Rattle.model.proofs.Tests.{falsum, both, pair, same, same!, less, latest, same_truth, fails, refuted}
 use Rattle.model.proofs.Outcomes.{then_pass, require_pass}
 use Rattle.model.proofs.Recursion.{below_at, course_law}
 use Rattle.primitives.proofs.Scanning.{Scanning}
 use Rattle.primitives.proofs.Searches.{any_same}
-use Rattle.expressions.specs.Nodes.{node_key, NodeKeyOf, is_among, NodeBytes, NodeRead, formed_as, entry_of, EarlierRegions, EarlierNodes, NodeChecked}
-use Rattle.expressions.specs.declared.nodes.Node.{Node}
+use Rattle.expressions.specs.Nodes.{kind_byte, node_key, NodeKeyOf, NodeRead, EarlierRegions, EarlierNodes, NodePasses}
+use Rattle.expressions.specs.declared.records.Node.{Node}
 use Rattle.expressions.specs.declared.nodes.CheckedNode.{CheckedNode}
+use Rattle.expressions.specs.declared.nodes.NodeTables.{NodeTables}
 use Rattle.primitives.proofs.Filling.{entry_next}
 
--- the record of node j, as one value
-abbrev pub node_of : Plan → ℕ → Node
-node_of P j = record { kind = node_kind P j; a = node_a P j; b = node_b P j; unused = node_unused P j }
-
-pub node_is : {P : Plan} {j : ℕ} {r : Node} → NodeRead P j r → r ≡ node_of P j
-node_is read = rw (← read.kind, ← read.a, ← read.b, ← read.unused)
+-- numbers that are equal where two others are
+pub equal_alike : {a b c d : ℕ} → (a ≡ b → c ≡ d) → (c ≡ d → a ≡ b) → (a =? b) ≡ (c =? d)
+equal_alike f g = same_truth (λ h. same! (f (same h))) (λ h. same! (g (same h)))
 
 -- a last byte that is 0, and one that is not
 module _ {P : Plan} {j : ℕ} {node : Node} (read : NodeRead P j node) where
@@ -43,20 +46,29 @@ module _ {P : Plan} {j : ℕ} {node : Node} (read : NodeRead P j node) where
   pub unused_set : (node.unused ≡ 0 → ⊥) → (node_unused P j =? 0) ≡ false
   unused_set h = fails (refuted (λ e. h (read.unused ∙ same e)))
 
+-- what is said of node j, by its kind as it was read
+module _ {P : Plan} {j : ℕ} {node : Node} (read : NodeRead P j node) {kind : NodeKind} (is : node.kind ≡ kind) where
+  pub kind_formed : node_formed P j ≡ (node_unused P j =? 0 and node_formed_by P kind j)
+  unfolding node_formed
+  kind_formed = rw (← read.kind, is)
+
+  pub kind_agrees : node_agrees P j ≡ node_agrees_by P kind j
+  unfolding node_agrees
+  kind_agrees = rw (← read.kind, is)
+
+  pub kind_region : node_region P j ≡ node_region_by P kind j (below 0 j (node_region P))
+  unfolding node_region node_region_step
+  kind_region = course_law 0 (node_region_step P) j ∙ rw (← read.kind, is)
+
+-- a node that passes is formed, of a known kind, and its last byte is 0
 module _ (P : Plan) (j : ℕ) where
-  pub unformed_check : node_formed P j ≡ false → node_check P j ≡ Refuse (InvalidRecord (5 * 256 + j))
-  unfolding node_check require ◌then◌
-  unformed_check h = rw h
+  pub formed_passes : node_check P j ≡ Ok tt → Is (node_formed P j)
+  unfolding node_check
+  formed_passes h = require_pass _ _ (then_pass _ _ h).0
 
-  pub formed_check : Is (node_formed P j)
-      → node_check P j
-      ≡ (require (node_agrees P j) (RegionMismatch (5 * 256 + j)) then require (non (duplicate_node P j)) (DuplicateNode j))
-  unfolding node_check require ◌then◌
-  formed_check h = rw h
-
-  unused_byte : node_check P j ≡ Pass → node_unused P j ≡ 0
-  unfolding node_check node_formed
-  unused_byte h = same (both (require_pass _ _ (then_pass _ _ h).0)).0
+  pub unused_byte : Is (node_formed P j) → node_unused P j ≡ 0
+  unfolding node_formed
+  unused_byte h = same (both h).0
 
 -- a kind of two operands, whose regions are one
 pub record OfTwoOperands (P : Plan) (kind : NodeKind) (j : ℕ) : Type 0 where
@@ -64,93 +76,95 @@ pub record OfTwoOperands (P : Plan) (kind : NodeKind) (j : ℕ) : Type 0 where
   pub region : (earlier : ℕ → ℕ) → node_region_by P kind j earlier ≡ earlier (node_a P j)
   pub agrees : node_agrees_by P kind j ≡ operands_of_one_region P j
 
-within : {tag : ℕ} → (tag ≡ 2) ⊎ ((tag ≡ 3) ⊎ (tag ≡ 4)) → (2 ≤ tag) × (tag ≤ 4)
-within (inl e) = (omega arith, omega arith)
-within (inr (inl e)) = (omega arith, omega arith)
-within (inr (inr e)) = (omega arith, omega arith)
-
-of_two : {tag : ℕ} → (tag ≡ 5) ⊎ (tag ≡ 6) → (5 ≤ tag) × (tag ≤ 6)
-of_two (inl e) = (omega arith, omega arith)
-of_two (inr e) = (omega arith, omega arith)
-
 -- union, intersection and difference are; an arm for all three tells their tags
-pub two_operands : (P : Plan) (kind : NodeKind) (j : ℕ) → (tag_of the_type kind ≡ 2) ⊎ ((tag_of the_type kind ≡ 3) ⊎ (tag_of the_type kind ≡ 4))
-    → OfTwoOperands P kind j
+pub two_operands : (P : Plan) (kind : NodeKind) (j : ℕ) → 2 ≤ tag_of the_type kind → tag_of the_type kind ≤ 4 → OfTwoOperands P kind j
 unfolding node_formed_by node_region_by node_agrees_by
-two_operands P Supplied j tags = let bounds = within tags in absurd (omega arith)
-two_operands P Equal j tags = let bounds = within tags in absurd (omega arith)
-two_operands P Union j tags = record { formed = refl; region = λ earlier. refl; agrees = refl }
-two_operands P Intersection j tags = record { formed = refl; region = λ earlier. refl; agrees = refl }
-two_operands P Difference j tags = record { formed = refl; region = λ earlier. refl; agrees = refl }
-two_operands P Image j tags = let bounds = within tags in absurd (omega arith)
-two_operands P Preimage j tags = let bounds = within tags in absurd (omega arith)
-two_operands P Unknown j tags = let bounds = within tags in absurd (omega arith)
+two_operands P Supplied j least most = absurd (omega arith)
+two_operands P Equal j least most = absurd (omega arith)
+two_operands P Union j least most = record { formed = refl; region = λ earlier. refl; agrees = refl }
+two_operands P Intersection j least most = record { formed = refl; region = λ earlier. refl; agrees = refl }
+two_operands P Difference j least most = record { formed = refl; region = λ earlier. refl; agrees = refl }
+two_operands P Image j least most = absurd (omega arith)
+two_operands P Preimage j least most = absurd (omega arith)
+two_operands P Unknown j least most = absurd (omega arith)
 
 -- image and preimage have one, and a map
-pub operand_and_map_lem : (P : Plan) (kind : NodeKind) (j : ℕ) → (tag_of the_type kind ≡ 5) ⊎ (tag_of the_type kind ≡ 6) → node_formed_by P kind j ≡ operand_and_map P j
+pub one_operand : (P : Plan) (kind : NodeKind) (j : ℕ) → 5 ≤ tag_of the_type kind → tag_of the_type kind ≤ 6 → node_formed_by P kind j ≡ operand_and_map P j
 unfolding node_formed_by
-operand_and_map_lem P Supplied j tags = let bounds = of_two tags in absurd (omega arith)
-operand_and_map_lem P Equal j tags = let bounds = of_two tags in absurd (omega arith)
-operand_and_map_lem P Union j tags = let bounds = of_two tags in absurd (omega arith)
-operand_and_map_lem P Intersection j tags = let bounds = of_two tags in absurd (omega arith)
-operand_and_map_lem P Difference j tags = let bounds = of_two tags in absurd (omega arith)
-operand_and_map_lem P Image j tags = refl
-operand_and_map_lem P Preimage j tags = refl
-operand_and_map_lem P Unknown j tags = let bounds = of_two tags in absurd (omega arith)
+one_operand P Supplied j least most = absurd (omega arith)
+one_operand P Equal j least most = absurd (omega arith)
+one_operand P Union j least most = absurd (omega arith)
+one_operand P Intersection j least most = absurd (omega arith)
+one_operand P Difference j least most = absurd (omega arith)
+one_operand P Image j least most = refl
+one_operand P Preimage j least most = refl
+one_operand P Unknown j least most = absurd (omega arith)
 
--- node j as it was read is of this kind, and formed
-pub record FormedNode (P : Plan) (j : ℕ) (kind : NodeKind) : Type 0 where
-  pub of_kind : kind ≡ node_kind_at P j
-  pub by_kind : Is (node_formed_by P kind j)
-  pub unused : node_unused P j ≡ 0
-  pub formed : Is (node_formed P j)
+-- the region of an earlier node, as the table has it and as the region of node j is made from it
+module _ {P : Plan} {table : List ℕ} {j : ℕ} (earlier : EarlierRegions P table j) (k : ℕ) (lt : Is (k <? j)) where
+  pub earlier_region : get_or table k 0 ≡ node_region P k
+  earlier_region = earlier.region k (less lt)
 
-module _ {P : Plan} {j : ℕ} {node : Node} (read : NodeRead P j node) {kind : NodeKind} (kind_is : kind ≡ node_kind_of node.kind) where
-  own_kind : kind ≡ node_kind_at P j
-  unfolding node_kind_at
-  own_kind = rw (← read.kind) kind_is
+  pub region_below : below 0 j (node_region P) k ≡ node_region P k
+  region_below = below_at 0 j (node_region P) k (less lt)
 
-  by_read : formed_as P kind j ≡ node_formed P j
-  unfolding node_formed
-  by_read = rw own_kind
+-- a value that is there by a test, else a refusal: what the refusal and the value say of the test
+pub test_refused : (test : Bool) (v : ℕ) (q : Refusal) {r : Refusal} → ok_or (then_some test v) q ≡ Err r → require test q ≡ Err r
+unfolding require
+test_refused true v q h = cc
+test_refused false v q h = cc
 
-  pub formed_known : Is (formed_as P kind j) → FormedNode P j kind
-  formed_known h = record { of_kind = own_kind; by_kind = (both h).1; unused = same (both h).0; formed = sym by_read ∙ h }
+pub test_passed : (test : Bool) (v : ℕ) (q : Refusal) {w : ℕ} → ok_or (then_some test v) q ≡ Ok w → Is test × (w ≡ v)
+test_passed true v q h = (refl, cc)
+test_passed false v q h = cc
 
-  pub unformed_known : formed_as P kind j ≡ false → node_formed P j ≡ false
-  unformed_known h = sym by_read ∙ h
+-- kinds and their bytes: in the order of the enum; every other byte stands for the last of them, by which no node is formed
+tag_byte : (kind : NodeKind) → tag_of the_type kind ≡ kind_byte kind
+tag_byte Supplied = refl
+tag_byte Equal = refl
+tag_byte Union = refl
+tag_byte Intersection = refl
+tag_byte Difference = refl
+tag_byte Image = refl
+tag_byte Preimage = refl
+tag_byte Unknown = refl
 
-pub agrees_known : (P : Plan) (j : ℕ) {kind : NodeKind} {agree : Bool} → kind ≡ node_kind_at P j → agree ≡ node_agrees_by P kind j → agree ≡ node_agrees P j
-unfolding node_agrees
-agrees_known P j e agree = rw (← e) agree
+byte_least : (k : ℕ) → kind_byte (node_kind_of k) ≡ min k 7
+unfolding node_kind_of
+byte_least zero = refl
+byte_least (suc zero) = refl
+byte_least (suc (suc zero)) = refl
+byte_least (suc (suc (suc zero))) = refl
+byte_least (suc (suc (suc (suc zero)))) = refl
+byte_least (suc (suc (suc (suc (suc zero))))) = refl
+byte_least (suc (suc (suc (suc (suc (suc zero)))))) = refl
+byte_least (suc (suc (suc (suc (suc (suc (suc k))))))) = omega arith
 
--- the regions of earlier nodes, as the table has them
-module _ {P : Plan} {table : List ℕ} {j : ℕ} (earlier : EarlierRegions P table j) where
-  pub left_region : {node : Node} {v : ℕ} → NodeRead P j node → v ≡ get_or table node.a 0 → Is (node_a P j <? j) → v ≡ node_region P (node_a P j)
-  left_region read e lt = rw (e, read.a) (earlier.region _ (less lt))
+formed_known : (P : Plan) (j : ℕ) (kind : NodeKind) → Is (node_formed_by P kind j) → kind_byte kind < 7
+unfolding node_formed_by
+formed_known P j Supplied formed = omega arith
+formed_known P j Equal formed = omega arith
+formed_known P j Union formed = omega arith
+formed_known P j Intersection formed = omega arith
+formed_known P j Difference formed = omega arith
+formed_known P j Image formed = omega arith
+formed_known P j Preimage formed = omega arith
+formed_known P j Unknown formed = falsum formed
 
-  pub right_region : {node : Node} {v : ℕ} → NodeRead P j node → v ≡ get_or table node.b 0 → Is (node_b P j <? j) → v ≡ node_region P (node_b P j)
-  right_region read e lt = rw (e, read.b) (earlier.region _ (less lt))
+formed_byte : (P : Plan) (j : ℕ) → Is (node_formed P j) → (kind_byte (node_kind_at P j) ≡ node_kind P j) × (node_kind P j < 7)
+unfolding node_formed node_kind_at
+formed_byte P j formed =
+    let least = byte_least (node_kind P j) in
+    let known = formed_known P j _ (both formed).1 in
+    (omega arith, omega arith)
 
-  from_table : (k : ℕ) → Is (k <? j) → get_or table k 0 ≡ below 0 j (node_region P) k
-  from_table k lt = earlier.region k (less lt) ∙ sym (below_at 0 j (node_region P) k (less lt))
-
-  by_kind : (kind : NodeKind) → Is (node_formed_by P kind j)
-      → node_region_by P kind j (entry_of table) ≡ node_region_by P kind j (below 0 j (node_region P))
-  unfolding node_formed_by node_region_by
-  by_kind Supplied formed = refl
-  by_kind Equal formed = refl
-  by_kind Union formed = from_table _ (both formed).0
-  by_kind Intersection formed = from_table _ (both formed).0
-  by_kind Difference formed = from_table _ (both formed).0
-  by_kind Image formed = refl
-  by_kind Preimage formed = refl
-  by_kind Unknown formed = refl
-
-  pub region_known : {kind : NodeKind} {v : ℕ} → kind ≡ node_kind_at P j → Is (node_formed_by P kind j)
-      → v ≡ node_region_by P kind j (entry_of table) → v ≡ node_region P j
-  unfolding node_region node_region_step
-  region_known {kind} e formed v = v ∙ by_kind kind formed ∙ rw e (sym (course_law 0 (node_region_step P) j))
+-- a node's kind as it was read, compared with a known one
+pub kind_same : {P : Plan} {j : ℕ} {node : Node} → NodeRead P j node → (kind : NodeKind) → kind_byte kind < 7
+    → sameb the_type node.kind kind ≡ (node_kind P j =? kind_byte kind)
+unfolding node_kind_at ◌=?◌
+kind_same {P} {j} read kind known =
+    let least = byte_least (node_kind P j) in
+    rw (read.kind, tag_byte, tag_byte kind) (equal_alike (λ e. omega arith) (λ e. omega arith))
 
 -- two nodes of bytes have one key where they are one node
 key_same : {k a b k' a' b' : ℕ} → k < 256 → a < 256 → b < 256 → k' < 256 → a' < 256 → b' < 256
@@ -166,41 +180,45 @@ key_same {k} {a} {b} {k'} {a'} {b'} k< a< b< k'< a'< b'< =
     let e-b = same (both (both h).1).1 in
     same! (omega arith))
 
--- node j as it was read, and its key
-module _ {P : Plan} {j : ℕ} {node : Node} (bytes : NodeBytes node) (read : NodeRead P j node) {key : ℕ}
-    (key-is : key ≡ node_key node.kind node.a node.b) where
-  pub own_key : NodeKeyOf P j key
-  own_key k a b k< a< b< = rw (key-is, ← read.kind, ← read.a, ← read.b) (key_same bytes.kind bytes.a bytes.b k< a< b<)
+-- whether one of the first entries passes
+taken_any : (test : ℕ → Bool) (xs : List ℕ) (n : ℕ) → n ≤ length xs → list_any test (take n xs) ≡ any n (λ k. test (get_or xs k 0))
+unfolding any ◌or◌
+taken_any test xs zero few = refl
+taken_any test xs (suc n) few = rw (← add-one n, list_any_more test xs n 0 (omega arith), taken_any test xs n (omega arith))
 
-  pub duplicate_known : {regionTable keyTable : List ℕ} → EarlierNodes P regionTable keyTable j → node_unused P j ≡ 0
-      → is_among keyTable key j ≡ duplicate_node P j
+-- node j as it was read, formed, and its key
+module _ {P : Plan} {j : ℕ} {node : Node} (read : NodeRead P j node) (formed : Is (node_formed P j)) {key : ℕ}
+    (key_is : key ≡ node_key (kind_byte node.kind) node.a node.b) (a< : node.a < 256) (b< : node.b < 256) where
+  kind_known : kind_byte node.kind ≡ node_kind P j
+  kind_known = rw read.kind (formed_byte P j formed).0
+
+  kind< : node_kind P j < 256
+  kind< = omega (arith, (formed_byte P j formed).1)
+
+  pub own_key : NodeKeyOf P j key
+  own_key k a b k< a<' b<' = rw (key_is, kind_known, ← read.a, ← read.b) (key_same kind< a< b< k< a<' b<')
+
+  pub duplicate_known : {tables : NodeTables} → EarlierNodes P tables j → j ≤ length tables.keys
+      → list_any (λ earlier. nat_eq earlier key) (take j tables.keys) ≡ duplicate_node P j
   unfolding duplicate_node same_node ◌and◌ ◌=?◌
-  duplicate_known earlier blank =
-      rw key-is
+  duplicate_known {tables} earlier few =
+      rw (taken_any (λ earlier. nat_eq earlier key) tables.keys j few, key_is)
       (any_same j _ _ (λ k lt.
-      rw (earlier.unused k lt, blank, and-true, ← read.kind, ← read.a, ← read.b)
-      (earlier.keys k lt _ _ _ bytes.kind bytes.a bytes.b)))
+      rw (earlier.unused k lt, unused_byte P j formed, and-true, kind_known, ← read.a, ← read.b)
+      (earlier.keys k lt _ _ _ kind< a< b<)))
 
 -- after node j, which passes
-pub next_earlier : {P : Plan} {regionTable keyTable : List ℕ} {j : ℕ} {r : CheckedNode} → EarlierNodes P regionTable keyTable j
-    → j < length regionTable → j < length keyTable → NodeChecked P j r → r.outcome ≡ Pass
-    → EarlierNodes P (set regionTable j r.region) (set keyTable j r.key) (j + 1)
-next_earlier {P} {regionTable} {keyTable} {j} earlier in_regions in-keys node pass =
+pub next_earlier : {P : Plan} {tables : NodeTables} {j : ℕ} {r : CheckedNode} → EarlierNodes P tables j
+    → j < length tables.regions → j < length tables.keys → NodePasses P j r
+    → EarlierNodes P (record { regions = set tables.regions j r.region; keys = set tables.keys j r.key }) (j + 1)
+next_earlier {P} {tables} {j} earlier in_regions in_keys node =
     record {
-      regions =
-          record { region = entry_next 0 (λ k v. v ≡ node_region P k) regionTable j _ in_regions earlier.regions.region (node.region pass) };
-      keys = entry_next 0 (NodeKeyOf P) keyTable j _ in-keys earlier.keys node.key;
-      unused = λ k lt. elim (latest k j (omega arith)) [ inl e ↦ rw e (unused_byte P j (sym node.outcome ∙ pass)) | inr l ↦ earlier.unused k l ];
+      regions = record { region = entry_next 0 (λ k v. v ≡ node_region P k) tables.regions j _ in_regions earlier.regions.region node.region };
+      keys = entry_next 0 (NodeKeyOf P) tables.keys j _ in_keys earlier.keys node.key;
+      unused = λ k lt. elim (latest k j (omega arith)) [ inl e ↦ rw e (unused_byte P j (formed_passes P j node.passes)) | inr l ↦ earlier.unused k l ];
     }
 
--- the loop over the nodes: how many there are, and the length of the tables
-pub record NodeTables (nodes : Bytes) (count : ℕ) (regionTable keyTable : List ℕ) : Type 0 where
-  pub counted : count ≡ length nodes / 4
-  pub most : count ≤ 48
-  pub regions_room : length regionTable ≡ 48
-  pub keys_room : length keyTable ≡ 48
-
--- and the nodes before node j, which passed
-pub record NodesPassed (P : Plan) (regionTable keyTable : List ℕ) (j : ℕ) : Type 0 where
-  pub earlier : EarlierNodes P regionTable keyTable j
+-- the loop over the nodes: the nodes before node j passed, and the tables have them
+pub record NodesPassed (P : Plan) (tables : NodeTables) (j : ℕ) : Type 0 where
+  pub earlier : EarlierNodes P tables j
   pub scanning : Scanning (node_check P) (node_count P) j

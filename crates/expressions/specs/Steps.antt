@@ -1,17 +1,14 @@
 -- A record of section 7 as it is read, and the table of what the steps conclude.
-use Rattle.std.specs.Prelude.{ℕ, ◌+◌, ◌*◌, ◌≤◌, ◌<◌, ◌≡◌, List, get_or, length}
+use Rattle.std.specs.Prelude.{ℕ, ◌+◌, ◌*◌, ◌≤◌, ◌<◌, ◌≡◌, List, get_or, Ok}
+use Rattle.model.specs.Outcomes.{Outcome}
 use Rattle.model.specs.Tests.{◌=?◌}
 use Rattle.model.specs.Bytes.{Bytes}
 use Rattle.model.specs.Layout.{Plan, step_count, step_lemma, step_x, step_y, step_p, step_q}
-use Rattle.model.specs.Lemmas.{lemma_row, concludes_subset, concludes_disjoint, concludes_complete}
+use Rattle.model.specs.Lemmas.{concludes_subset, concludes_disjoint, concludes_complete}
 use Rattle.model.specs.Verdict.{steps_check}
-use Rattle.model.specs.declared.Outcome.{Outcome}
-use Rattle.model.specs.declared.Outcome.TheVariants.{Pass}
 use Rattle.model.specs.declared.Conclusion.{Conclusion}
 use Rattle.model.specs.declared.Conclusion.TheVariants.{Subset, Disjoint, Complete}
-use Rattle.model.specs.declared.Lemma.{Lemma}
-use Rattle.expressions.specs.declared.steps.Step.{Step}
-use Rattle.expressions.specs.declared.steps.Premises.{Premises}
+use Rattle.expressions.specs.declared.records.Step.{Step}
 
 -- a plan of the sections that steps are checked by
 pub record StepSources (P : Plan) (maps supplied nodes steps : Bytes) : Type 0 where
@@ -35,12 +32,6 @@ unfoldable pub conclusion_key : Conclusion → ℕ → ℕ → ℕ
 conclusion_key Subset x y = subset_key x y
 conclusion_key Disjoint x y = disjoint_key x
 conclusion_key Complete x y = complete_key x
-
--- x, y and p are bytes
-pub record StepBytes (step : Step) : Type 0 where
-  pub x : step.x < 256
-  pub y : step.y < 256
-  pub p : step.p < 256
 
 -- what was read is step t: "lemma, x, y, p, q"
 pub record StepRead (P : Plan) (t : ℕ) (r : Step) : Type 0 where
@@ -68,18 +59,7 @@ pub record ConclusionKey (P : Plan) (t key : ℕ) : Type 0 where
 abbrev pub ConclusionKeys : Plan → ℕ → List ℕ → Type 0
 ConclusionKeys P n table = (t : ℕ) → t < n → ConclusionKey P t (get_or table t 0)
 
--- the table's keys for steps p and q
-pub record PremisesRead (table : List ℕ) (step : Step) (r : Premises) : Type 0 where
-  pub p : r.p ≡ get_or table step.p 0
-  pub q : r.q ≡ get_or table step.q 0
-
--- step t is next: it is of bytes, the row is its lemma's, and the table has room for it
-pub record StepTurn (table : List ℕ) (step : Step) (row : Lemma) (t : ℕ) : Type 0 where
-  pub bytes : StepBytes step
-  pub listed : row ≡ lemma_row step.lemma
-  pub inside : t < length table
-
 -- the outcome of section 7 and, after a pass, what each step concludes
 pub record StepsRead (P : Plan) (r : Outcome) (table : List ℕ) : Type 0 where
   pub outcome : r ≡ steps_check P
-  pub conclusions : r ≡ Pass → ConclusionKeys P (step_count P) table
+  pub conclusions : r ≡ Ok tt → ConclusionKeys P (step_count P) table

@@ -1,8 +1,10 @@
 // The table of the 21 lemmas: what each concludes, and which of a step's numbers it uses.
+// A constant table of rows, and one row for a number that is no lemma: the project's form.
 ghost use Rattle.std.specs.Prelude.{◌≡◌, ◌-◌};
 ghost use Rattle.model.specs.Lemmas.{lemma_row};
 
 use model::{Conclusion, Lemma};
+use primitives::lookup::entry_or;
 
 const LEMMAS: [Lemma; 21] = [
     Lemma {
@@ -163,17 +165,10 @@ const NO_LEMMA: Lemma = Lemma {
     q: false,
 };
 
-// The place of a lemma's row. Lemmas are numbered from 1; 0 has the place of 1.
-fn row_place(lemma: usize) -> usize
-    ensures { result ≡ lemma - 1 }
-{
-    if lemma == 0 { 0 } else { lemma - 1 }
-}
-
-// The row of a lemma.
+// The row of a lemma. Lemmas are numbered from 1; 0 has the row of 1.
+#[tactic(auto, unfolding(model::specs::Lemmas::lemma_row, model::specs::Lemmas::lemmas))]
 pub fn lemma_row(lemma: usize) -> Lemma
     ensures { result ≡ lemma_row lemma }
 {
-    let place = row_place(lemma);
-    if place < 21 { LEMMAS[place] } else { NO_LEMMA }
+    entry_or(&LEMMAS, lemma.saturating_sub(1), NO_LEMMA)
 }

@@ -4,4 +4,5 @@
 pub mod lemmas;
 pub mod licences;
 pub mod nodes;
+pub mod records;
 pub mod steps;

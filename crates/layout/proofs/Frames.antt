@@ -1,108 +1,97 @@
 -- The sections of a plan, read one after the other: what is known after so many of them. Assumes nothing.
 use Prim.Native.Nat.{ℕ, zero, suc, ◌+◌, ◌-◌, ◌<◌, ◌≤◌}
-use mathlib.Core.Path.{◌≡◌, refl, sym, ap, ◌∙◌}
-use mathlib.Core.List.{List}
+use mathlib.Core.Path.{◌≡◌, refl, ◌∙◌}
+use native.Mathlib.Numerals.{add-one}
 use native.Mathlib.Omega.{arith}
-use borrow.Author.Tests.{lt-leb}
-use lib.ListN.{length, replicate, set}
-use Rattle.model.specs.Tests.{◌≤?◌}
-use Rattle.model.specs.Bytes.{Bytes, u16, boundary}
-use Rattle.model.specs.Outcomes.{require, ◌then◌, scan}
-use Rattle.model.specs.Layout.{section_check, layout_check}
+use borrow.Author.Tests.{le-leb, lt-leb, eq-eqb, ne_eqb}
+use lib.ListN.{length}
+use borrow.Author.Count.{below_more}
+use Rattle.std.specs.Prelude.{Ok, Err, is_ok, IsTrue}
+use Rattle.model.specs.Tests.{◌=?◌, ◌≤?◌}
+use Rattle.model.specs.Bytes.{Bytes, byte, u16, part, boundary, body}
+use Rattle.model.specs.Outcomes.{require, ◌then◌, scan, Outcome}
+use Rattle.model.specs.Layout.{Plan, plan_of, section_check, layout_check}
+use Rattle.model.specs.AcceptedPlans.{Limits}
 use Rattle.model.specs.declared.Refusal.{Refusal}
-use Rattle.model.specs.declared.Refusal.TheVariants.{TrailingBytes}
-use Rattle.model.specs.declared.Outcome.TheVariants.{Pass, Refuse}
-use Rattle.model.proofs.Tests.{both, most, most! }
-use Rattle.model.proofs.Outcomes.{then_pass, require_pass, required, scan_pass, scan_next, scan_stop, scan_end}
+use Rattle.model.specs.declared.Refusal.TheVariants.{Truncated, UnknownEdition, TrailingBytes}
+use Rattle.model.proofs.Tests.{both, most}
+use Rattle.model.proofs.Outcomes.{then_pass, require_pass, scan_next, scan_stop, scan_end}
 use Rattle.model.proofs.Accepted.{laid_out_lem, limits}
-use Rattle.primitives.specs.Sections.{frame_of}
-use Rattle.primitives.proofs.Bodies.{Located, located_start, located_next, next_place, located_end, frame_at}
-use Rattle.layout.specs.declared.frame.Framed.{Framed}
-use Rattle.layout.specs.Frames.{length_check, frame_if, refused, sections_framed, framed_of, Laid}
+use Rattle.layout.specs.Frames.{length_check, Progress}
+
+passes : (o : Outcome) → IsTrue (is_ok o) → o ≡ Ok tt
+passes (Ok _) h = refl
+passes (Err r) h = cc
+
+passed : {o : Outcome} → o ≡ Ok tt → IsTrue (is_ok o)
+passed h = rw h refl
 
 module _ (p : Bytes) where
+  pub empty_refused : length p ≡ 0 → layout_check p ≡ Err (Truncated 0)
+  unfolding layout_check require ◌then◌ ◌≤?◌
+  empty_refused h = rw (lt-leb 1 (length p) (omega arith))
+
+  pub edition_refused : 1 ≤ length p → (byte p 0 ≡ 1 → ⊥) → layout_check p ≡ Err UnknownEdition
+  unfolding layout_check require ◌then◌ ◌≤?◌ ◌=?◌
+  edition_refused some other = rw (le-leb 1 (length p) some, ne_eqb (byte p 0) 1 other)
+
   -- the check of a section, from the place of its length
-  section-length : (section : ℕ) → section_check p section ≡ length_check (length p) (boundary p section) (u16 p (boundary p section)) section
+  section-length : (n : ℕ) → section_check p n ≡ length_check (length p) (boundary p n) (u16 p (boundary p n)) n
   unfolding section_check length_check boundary
-  section-length section = refl
+  section-length n = rw (add-one n)
 
-  section_inside : (section : ℕ) → section_check p section ≡ Pass → boundary p (suc section) ≤ length p
-  unfolding section_check
-  section_inside section h = most (both (require_pass _ _ (then_pass _ _ h).0)).1
+  pub progress_start : 1 ≤ length p → byte p 0 ≡ 1 → Progress p 0 1
+  unfolding boundary
+  progress_start some edition =
+      record { some = some; edition = edition; few = omega arith; passed = λ n lt. absurd (omega arith); placed = refl; inside = some }
 
-  -- after the first sections: their places, and that the rest decides
-  pub record Progress (boundaries : List ℕ) (at section : ℕ) : Type 0 where
-    pub few : section ≤ 7
-    pub located : Located p boundaries at section
-    pub inside : at ≤ length p
-    pub left : scan (section_check p) section (7 - section) ≡ scan (section_check p) 0 7
+  module _ {read at : ℕ} (past : Progress p read at) where
+    sections_left :
+        layout_check p ≡ (scan (section_check p) read (7 - read) then require (length p ≤? boundary p 7) (TrailingBytes (boundary p 7)))
+    unfolding layout_check require ◌then◌ ◌≤?◌ ◌=?◌
+    sections_left =
+        rw (le-leb 1 (length p) past.some, eq-eqb (byte p 0) 1 past.edition, left read past.few (λ n lt. passes _ (past.passed n lt)))
+      where
+        left : (k : ℕ) → k ≤ 7 → ((n : ℕ) → n < k → section_check p n ≡ Ok tt) → scan (section_check p) 0 7 ≡ scan (section_check p) k (7 - k)
+        left zero few earlier = refl
+        left (suc k) few earlier =
+            left k (omega arith) (λ n lt. earlier n (omega arith))
+            ∙ (rw (add-one k) at (scan_next (section_check p) 7 k (omega arith) (earlier k (omega arith))))
 
-  pub progress_start : 1 ≤ length p → Progress (set (replicate 9 0) 0 1) 1 0
-  progress_start h = record { few = omega arith; located = located_start p; inside = h; left = refl }
+    checked : {size : ℕ} → size ≡ u16 p at → section_check p read ≡ length_check (length p) at size read
+    checked is = rw (is, past.placed) (section-length read)
 
-  module _ {boundaries : List ℕ} {at section : ℕ} (past : Progress boundaries at section) (size : ℕ) (read : size ≡ u16 p at) where
-    checked : section_check p section ≡ length_check (length p) at size section
-    checked = rw (read, past.located.place) (section-length section)
+    module _ {size : ℕ} (is : size ≡ u16 p at) (few : read < 7) where
+      pub progress_next : length_check (length p) at size read ≡ Ok tt → Progress p (read + 1) (at + 2 + size)
+      unfolding section_check boundary
+      progress_next h =
+          let here : section_check p read ≡ Ok tt = checked is ∙ h in
+          let placed : at + 2 + size ≡ boundary p (suc read) = rw (is, past.placed) in
+          record {
+            some = past.some;
+            edition = past.edition;
+            few = omega arith;
+            passed = below_more (λ n. IsTrue (is_ok (section_check p n))) read past.passed (passed here);
+            placed = rw (add-one read) placed;
+            inside = rw placed (most (both (require_pass _ _ (then_pass _ _ here).0)).1);
+          }
 
-    pub progress_next : section < 7 → length_check (length p) at size section ≡ Pass →
-        Progress (set boundaries (section + 1) (at + 2 + size)) (at + 2 + size) (section + 1)
-    progress_next lt h =
-        let pass : section_check p section ≡ Pass = checked ∙ h in
-        record {
-          few = omega arith;
-          located = located_next p past.located read;
-          inside = rw (next_place p past.located read) (section_inside section pass);
-          left = sym (scan_next (section_check p) 7 section lt pass) ∙ past.left;
-        }
+      pub progress_refused : {r : Refusal} → length_check (length p) at size read ≡ Err r → layout_check p ≡ Err r
+      unfolding ◌then◌
+      progress_refused h = sections_left ∙ (rw (scan_stop (section_check p) 7 read few (checked is ∙ h)))
 
-    pub progress_refused : {r : Refusal} → section < 7 → length_check (length p) at size section ≡ Refuse r → refused r ≡ sections_framed p
-    unfolding frame_if ◌then◌
-    progress_refused lt h = rw (← past.left, scan_stop (section_check p) 7 section lt (checked ∙ h))
+      pub body_next : part p (at + 2) (at + 2 + size) ≡ body p read
+      unfolding body boundary
+      body_next = rw (is, past.placed)
 
-  module _ {boundaries : List ℕ} {at section : ℕ} (past : Progress boundaries at section) (done : 7 ≤ section) where
-    last : at ≡ boundary p 7
-    last = let e : section ≡ 7 = omega (arith, past.few) in past.located.place ∙ rw e
+    pub progress_end : read ≡ 7 → layout_check p ≡ require (length p ≤? at) (TrailingBytes at)
+    unfolding ◌then◌
+    progress_end done = sections_left ∙ (rw (scan_end (section_check p) 7 read (omega arith), ← done, past.placed))
 
-    passed : scan (section_check p) 0 7 ≡ Pass
-    passed = sym past.left ∙ scan_end (section_check p) 7 section done
+-- what the sections of a plan whose layout passes hold
+pub bodies_limited : (p : Bytes) {P : Plan} → layout_check p ≡ Ok tt → P ≡ plan_of p → Limits P
+bodies_limited p passes is = rw is (limits p (laid_out_lem p passes))
 
-    pub progress_trailing : at < length p → refused (TrailingBytes at) ≡ sections_framed p
-    unfolding frame_if ◌then◌ require ◌≤?◌
-    progress_trailing more = rw (last, passed, lt-leb (length p) (boundary p 7) (rw last at more))
+pub ruleset starting = (empty_refused, edition_refused, progress_start)
 
-    pub progress_whole : length p ≤ at → record { outcome = Pass; frame = record { boundaries = boundaries } } ≡ sections_framed p
-    unfolding frame_if ◌then◌
-    progress_whole end =
-        rw (
-          passed,
-          required (length p ≤? boundary p 7) (TrailingBytes (boundary p 7)) (most! (rw last at end)),
-          located_end p past.few done past.located,
-        )
-
--- sections that pass lie within the bytes
-sections_inside : (p : Bytes) → 1 ≤ length p → scan (section_check p) 0 7 ≡ Pass → (k : ℕ) → k ≤ 7 → boundary p k ≤ length p
-unfolding boundary
-sections_inside p some passes zero h = some
-sections_inside p some passes (suc k) h = section_inside p k (scan_pass (section_check p) 7 passes k (omega arith))
-
--- a layout that passes
-pub layout_laid : (p : Bytes) → layout_check p ≡ Pass → Laid p (frame_of 7 p)
-unfolding layout_check
-layout_laid p h =
-    let some = then_pass _ _ h in
-    let sections = (then_pass _ _ (then_pass _ _ some.1).1).0 in
-    record {
-      passes = h;
-      delimited = record {
-        few = omega arith;
-        places = λ k l. frame_at p 7 k (omega arith) l;
-        inside = sections_inside p (most (require_pass _ _ some.0)) sections;
-      };
-      limits = limits p (laid_out_lem p h);
-    }
-
-pub laid : (p : Bytes) {framed : Framed} → framed ≡ framed_of p → framed.outcome ≡ Pass → Laid p framed.frame
-unfolding frame_if
-laid p read pass =
-    let h : layout_check p ≡ Pass = sym (ap (λ x. x.outcome) read) ∙ pass in
-    rw (read, h) (layout_laid p h)
+pub ruleset progressing = (progress_next, progress_refused, body_next)

@@ -1,1 +1,1 @@
-pub mod Frames
+mod Frames

@@ -1,2 +1,4 @@
+pub mod Bodies
 pub mod Declarations
 pub mod Frames
+pub mod Sections

@@ -1,8 +1,11 @@
-// The layout of plans: where the seven sections end, the checks of the sections that declare, and cells of a plan.
+// The layout of plans: the bodies of the seven sections, the checks of the sections that declare, and cells of a plan.
 #![tactic(auto)]
 
 pub mod cells;
 pub mod frame;
 pub mod maps;
+mod reader;
 pub mod regions;
+pub mod sections;
+mod shapes;
 pub mod supplied;

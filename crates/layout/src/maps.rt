@@ -5,12 +5,13 @@ ghost use Rattle.model.specs.Verdict.{maps_check};
 ghost use Rattle.model.specs.Declarations.{map_check};
 ghost use Rattle.layout.specs.Declarations.{MapDeclarations};
 
-use model::{Outcome, Refusal};
+use model::Refusal;
 use primitives::outcomes::require;
 use primitives::records::{map_source, map_target, map_totality};
 
 // Whether a map leads from a region to a region and is partial or total.
-fn check_map(regions: &[u8], maps: &[u8], map: usize) -> Outcome
+#[tactic(auto, using(primitives::proofs::OpenTests::tests_open), unfolding(model::specs::Declarations::map_check))]
+fn check_map(regions: &[u8], maps: &[u8], map: usize) -> Result<(), Refusal>
     requires { map < length maps.now / 3 }
     ensures { (P : Plan) → MapDeclarations P regions.now maps.now → result ≡ map_check P map }
 {
@@ -25,16 +26,12 @@ fn check_map(regions: &[u8], maps: &[u8], map: usize) -> Outcome
 }
 
 // The records of section 2, in order.
-pub fn check_maps(regions: &[u8], maps: &[u8]) -> Outcome
+#[tactic(auto, using(primitives::proofs::Scanning::scanned))]
+pub fn check_maps(regions: &[u8], maps: &[u8]) -> Result<(), Refusal>
     ensures { (P : Plan) → MapDeclarations P regions.now maps.now → result ≡ maps_check P }
 {
-    let mut map = 0;
-    while map < maps.len() / 3 {
-        match check_map(regions, maps, map) {
-            Outcome::Pass => {}
-            Outcome::Refuse(refusal) => return Outcome::Refuse(refusal),
-        }
-        map += 1;
+    for map in 0..maps.len() / 3 {
+        check_map(regions, maps, map)?;
     }
-    Outcome::Pass
+    Ok(())
 }

@@ -4,12 +4,13 @@ ghost use Rattle.model.specs.Layout.{Plan};
 ghost use Rattle.model.specs.Verdict.{regions_check};
 ghost use Rattle.model.specs.Declarations.{region_check};
 
-use model::{Outcome, Refusal};
+use model::Refusal;
 use primitives::bytes::byte_at;
 use primitives::outcomes::require;
 
 // Whether a region has 1 to 8 fields.
-fn check_region(regions: &[u8], region: usize) -> Outcome
+#[tactic(auto, using(primitives::proofs::OpenTests::tests_open), unfolding(model::specs::Declarations::region_check))]
+fn check_region(regions: &[u8], region: usize) -> Result<(), Refusal>
     requires { region < length regions.now }
     ensures { (P : Plan) → P.regions ≡ regions.now → result ≡ region_check P region }
 {
@@ -21,16 +22,12 @@ fn check_region(regions: &[u8], region: usize) -> Outcome
 }
 
 // The records of section 1, in order.
-pub fn check_regions(regions: &[u8]) -> Outcome
+#[tactic(auto, using(primitives::proofs::Scanning::scanned))]
+pub fn check_regions(regions: &[u8]) -> Result<(), Refusal>
     ensures { (P : Plan) → P.regions ≡ regions.now → result ≡ regions_check P }
 {
-    let mut region = 0;
-    while region < regions.len() {
-        match check_region(regions, region) {
-            Outcome::Pass => {}
-            Outcome::Refuse(refusal) => return Outcome::Refuse(refusal),
-        }
-        region += 1;
+    for region in 0..regions.len() {
+        check_region(regions, region)?;
     }
-    Outcome::Pass
+    Ok(())
 }

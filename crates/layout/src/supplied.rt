@@ -5,12 +5,13 @@ ghost use Rattle.model.specs.Verdict.{partitions_check};
 ghost use Rattle.model.specs.Declarations.{supplied_check};
 ghost use Rattle.layout.specs.Declarations.{SuppliedDeclarations};
 
-use model::{Outcome, Refusal};
+use model::Refusal;
 use primitives::outcomes::require;
 use primitives::records::{supplied_flags, supplied_region};
 
 // Whether a supplied partition is of a region and its flags are known.
-fn check_partition(regions: &[u8], supplied: &[u8], partition: usize) -> Outcome
+#[tactic(auto, using(primitives::proofs::OpenTests::tests_open), unfolding(model::specs::Declarations::supplied_check))]
+fn check_partition(regions: &[u8], supplied: &[u8], partition: usize) -> Result<(), Refusal>
     requires { partition < length supplied.now / 2 }
     ensures { (P : Plan) → SuppliedDeclarations P regions.now supplied.now → result ≡ supplied_check P partition }
 {
@@ -23,16 +24,12 @@ fn check_partition(regions: &[u8], supplied: &[u8], partition: usize) -> Outcome
 }
 
 // The records of section 3, in order.
-pub fn check_supplied(regions: &[u8], supplied: &[u8]) -> Outcome
+#[tactic(auto, using(primitives::proofs::Scanning::scanned))]
+pub fn check_supplied(regions: &[u8], supplied: &[u8]) -> Result<(), Refusal>
     ensures { (P : Plan) → SuppliedDeclarations P regions.now supplied.now → result ≡ partitions_check P }
 {
-    let mut partition = 0;
-    while partition < supplied.len() / 2 {
-        match check_partition(regions, supplied, partition) {
-            Outcome::Pass => {}
-            Outcome::Refuse(refusal) => return Outcome::Refuse(refusal),
-        }
-        partition += 1;
+    for partition in 0..supplied.len() / 2 {
+        check_partition(regions, supplied, partition)?;
     }
-    Outcome::Pass
+    Ok(())
 }

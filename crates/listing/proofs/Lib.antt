@@ -1,4 +1,4 @@
-pub mod Appended
-pub mod Digits
-pub mod Powers
+pub mod Decimal
+pub mod Lines
+pub mod PastEnd
 pub mod Written

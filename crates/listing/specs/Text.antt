@@ -1,6 +1,7 @@
 -- The text of a report, as ASCII: the line of an answer, and the lines of the pieces.
-use Rattle.std.specs.Prelude.{ℕ, zero, suc, ◌+◌, ◌*◌, ◌/◌, ◌%◌, ◌≤◌, ◌≡◌, List, [], ◌∷◌, ◌++◌, length, take}
-use Rattle.model.specs.Tests.{◌=?◌, ◌<?◌, pick}
+use Rattle.std.specs.Prelude.{ℕ, zero, suc, ◌+◌, ◌*◌, List, [], ◌∷◌, ◌++◌, codes}
+use Rattle.std.specs.Fmt.{decimal}
+use Rattle.model.specs.Tests.{◌=?◌, pick}
 use Rattle.model.specs.Words.{holds}
 use Rattle.model.specs.declared.Report.{Report}
 use Rattle.model.specs.declared.WrittenReport.{WrittenReport}
@@ -8,15 +9,6 @@ use Rattle.model.specs.declared.ChargeReport.{ChargeReport}
 
 abbrev pub Text : Type 0
 Text = List ℕ
-
--- the digits of a number in decimal, the first not 0 unless it is the only one; k are enough
-unfoldable pub digits_within : ℕ → ℕ → Text
-digits_within zero n = []
-digits_within (suc k) n = pick (n <? 10) ((48 + n) ∷ []) (digits_within k (n / 10) ++ ((48 + n % 10) ∷ []))
-
--- 20 digits are enough for 64 bits
-unfoldable pub decimal : ℕ → Text
-decimal n = digits_within 20 n
 
 -- "each after a space"
 unfoldable pub spaced : ℕ → Text
@@ -28,10 +20,10 @@ numbers_text word first second third = word ++ spaced first ++ spaced second ++ 
 
 -- "accepted", then "symbols, nodes, steps"; "A refusal prints only", then the word, number and place
 abbrev pub accepted_text : ℕ → ℕ → ℕ → Text
-accepted_text = numbers_text (97 ∷ 99 ∷ 99 ∷ 101 ∷ 112 ∷ 116 ∷ 101 ∷ 100 ∷ [])
+accepted_text = numbers_text (codes "accepted")
 
 unfoldable pub refused_text : ℕ → ℕ → Text
-refused_text number place = (114 ∷ 101 ∷ 102 ∷ 117 ∷ 115 ∷ 101 ∷ 100 ∷ []) ++ spaced number ++ spaced place ++ (10 ∷ [])
+refused_text number place = codes "refused" ++ spaced number ++ spaced place ++ (10 ∷ [])
 
 unfoldable pub answer_text : Report → Text
 answer_text t = pick (t.number =? 0) (accepted_text t.symbols t.nodes t.steps) (refused_text t.number t.place)
@@ -59,7 +51,7 @@ node_text number node pieces words = pieces_text number node pieces words pieces
 
 -- "explained", then the chain's length; a refusal as above
 unfoldable pub explained_text : ℕ → Text
-explained_text n = (101 ∷ 120 ∷ 112 ∷ 108 ∷ 97 ∷ 105 ∷ 110 ∷ 101 ∷ 100 ∷ []) ++ spaced n ++ (10 ∷ [])
+explained_text n = codes "explained" ++ spaced n ++ (10 ∷ [])
 
 unfoldable pub explanation_text : WrittenReport → Text
 explanation_text t = pick (t.number =? 0) (explained_text t.length) (refused_text t.number t.place)
@@ -70,18 +62,7 @@ pair_text node element = decimal node ++ spaced element ++ (10 ∷ [])
 
 -- "charged", then count, cents and remainder; a refusal as above
 abbrev pub charged_text : ℕ → ℕ → ℕ → Text
-charged_text = numbers_text (99 ∷ 104 ∷ 97 ∷ 114 ∷ 103 ∷ 101 ∷ 100 ∷ [])
+charged_text = numbers_text (codes "charged")
 
 unfoldable pub charge_text : ChargeReport → Text
 charge_text t = pick (t.number =? 0) (charged_text t.count t.cents t.remainder) (refused_text t.number t.place)
-
--- the text was put behind the first `at` bytes of a line, and ends at `end`
-pub record Appended (before after : Text) (at : ℕ) (text : Text) (end : ℕ) : Type 0 where
-  pub ends : end ≡ at + length text
-  pub shows : take end after ≡ take at before ++ text
-
--- the line starts with this text, which ends at `end`; both lengths are given so that `&line[..end]` needs no proof
-pub record Shown (line text : Text) (end : ℕ) : Type 0 where
-  pub shows : take end line ≡ text
-  pub inside : end ≤ length line
-  pub whole : end ≡ length (take end line)

@@ -1,73 +1,78 @@
 // The text of a report, line by line: the answer, and the members of pieces or the pairs of a chain.
+// A function for each answer: text and clause differ, and a trait for them would be longer.
 #![tactic(auto)]
 
-mod lines;
 mod members;
-mod number;
-mod text;
 
 ghost use Rattle.std.specs.Prelude.{◌<◌, OnOk};
 ghost use Rattle.std.specs.Io.KnownBytes.{Appends};
-ghost use Rattle.model.specs.Answers.{report, written_report, charge_report};
-ghost use Rattle.listing.specs.Text.{answer_text, charge_text, explanation_text, node_text, pair_text, piece_text};
+ghost use Rattle.model.specs.Answers.{refusal_report, report, written_report, charge_report};
+ghost use Rattle.listing.specs.Text.{answer_text, charge_text, explanation_text, node_text, pair_text, refused_text};
 
-use lines::{answer_line, charge_line, explanation_line, pair_line, piece_line};
-use model::{Answer, Charge, Written};
+use members::Members;
+use model::{Acceptance, Charge, Refusal};
 use std::io;
 use std::io::Write;
 
+// Writes the line of a refusal.
+#[tactic(auto, unfolding(crate::specs::Text::refused_text, crate::specs::Text::spaced))]
+fn print_refusal<W: Write>(out: &mut W, refusal: Refusal) -> io::Result<()>
+    ensures { OnOk result (Appends (W.contents out.old) (W.contents out.new) (refused_text (refusal_report refusal).number (refusal_report refusal).place)) }
+{
+    writeln!(out, "refused {} {}", refusal.number(), refusal.place())
+}
+
 // Writes the line of an answer.
-pub fn print_answer<W: Write>(out: &mut W, answer: Answer) -> io::Result<()>
+#[tactic(auto, using(crate::proofs::Lines::accepted_line, crate::proofs::Lines::refused_answer_line), unfolding(crate::specs::Text::numbers_text, crate::specs::Text::spaced))]
+pub fn print_answer<W: Write>(out: &mut W, answer: Result<Acceptance, Refusal>) -> io::Result<()>
     ensures { OnOk result (Appends (W.contents out.old) (W.contents out.new) (answer_text (report answer))) }
 {
-    let mut line = [0u8; 12288];
-    let end = answer_line(&mut line, answer);
-    out.write_all(&line[..end])
+    match answer {
+        Ok(accepted) => writeln!(
+            out,
+            "accepted {} {} {}",
+            accepted.symbols, accepted.nodes, accepted.steps
+        ),
+        Err(refusal) => print_refusal(out, refusal),
+    }
 }
 
 // Writes the line of an explanation or of its refusal.
-pub fn print_explanation<W: Write>(out: &mut W, answer: Written) -> io::Result<()>
+#[tactic(auto, using(crate::proofs::Lines::explained_line, crate::proofs::Lines::refused_explanation_line), unfolding(crate::specs::Text::explained_text, crate::specs::Text::spaced))]
+pub fn print_explanation<W: Write>(out: &mut W, answer: Result<usize, Refusal>) -> io::Result<()>
     ensures { OnOk result (Appends (W.contents out.old) (W.contents out.new) (explanation_text (written_report answer))) }
 {
-    let mut line = [0u8; 12288];
-    let end = explanation_line(&mut line, answer);
-    out.write_all(&line[..end])
+    match answer {
+        Ok(pairs) => writeln!(out, "explained {pairs}"),
+        Err(refusal) => print_refusal(out, refusal),
+    }
 }
 
 // Writes the line of a charge or of its refusal.
-pub fn print_charge<W: Write>(out: &mut W, answer: Charge) -> io::Result<()>
+#[tactic(auto, using(crate::proofs::Lines::charged_line, crate::proofs::Lines::refused_charge_line), unfolding(crate::specs::Text::numbers_text, crate::specs::Text::spaced))]
+pub fn print_charge<W: Write>(out: &mut W, answer: Result<Charge, Refusal>) -> io::Result<()>
     ensures { OnOk result (Appends (W.contents out.old) (W.contents out.new) (charge_text (charge_report answer))) }
 {
-    let mut line = [0u8; 12288];
-    let end = charge_line(&mut line, answer);
-    out.write_all(&line[..end])
+    match answer {
+        Ok(charge) => writeln!(
+            out,
+            "charged {} {} {}",
+            charge.count, charge.cents, charge.remainder
+        ),
+        Err(refusal) => print_refusal(out, refusal),
+    }
 }
 
 // Writes the line of a chain's pair.
+#[tactic(auto, unfolding(crate::specs::Text::pair_text, crate::specs::Text::spaced))]
 pub fn print_pair<W: Write>(out: &mut W, node: u16, element: u16) -> io::Result<()>
     ensures { OnOk result (Appends (W.contents out.old) (W.contents out.new) (pair_text node element)) }
 {
-    let mut line = [0u8; 12288];
-    let end = pair_line(&mut line, node as usize, element as usize);
-    out.write_all(&line[..end])
-}
-
-// Writes the line of a piece, whose words stand from the first on.
-fn print_piece<W: Write>(
-    out: &mut W,
-    number: usize,
-    piece: usize,
-    words: &[u64],
-    first: usize,
-) -> io::Result<()>
-    ensures { OnOk result (Appends (W.contents out.old) (W.contents out.new) (piece_text number piece words.now first)) }
-{
-    let mut line = [0u8; 12288];
-    let end = piece_line(&mut line, number, piece, words, first);
-    out.write_all(&line[..end])
+    writeln!(out, "{node} {element}")
 }
 
 // Writes the lines of a node's pieces, each with a number in front.
+#[tactic(auto, using(crate::proofs::Written::none_written, crate::proofs::Written::then_written), unfolding(crate::specs::Text::pieces_text, crate::specs::Text::piece_text, crate::specs::Text::spaced))]
 pub fn print_node<W: Write>(
     out: &mut W,
     number: usize,
@@ -78,10 +83,9 @@ pub fn print_node<W: Write>(
     requires { (node < 256) × (pieces < 256) }
     ensures { OnOk result (Appends (W.contents out.old) (W.contents out.new) (node_text number node pieces words.now)) }
 {
-    let mut piece = 0;
-    while piece < pieces {
-        print_piece(out, number, piece, words, (node * pieces + piece) * 8)?;
-        piece += 1;
+    for piece in 0..pieces {
+        let first = (node * pieces + piece) * 8;
+        writeln!(out, "{number} {piece}:{}", Members { words, first })?;
     }
     Ok(())
 }

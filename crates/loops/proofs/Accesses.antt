@@ -1,37 +1,31 @@
 -- The accesses of loops, read from section 4's bytes and tables. Assumes nothing.
 use Prim.Native.Nat.{ℕ, ◌≤◌, ◌<◌}
 use mathlib.Core.Path.{◌≡◌, refl, ◌∙◌}
-use mathlib.Core.List.{List}
 use mathlib.Core.Bool.{Bool, true, false}
 use native.Mathlib.Omega.{arith}
 use lib.Dec.{ltb}
 use lib.ListN.{get_or, get_or-eq_default}
 use borrow.Author.Tests.{ltb-true, ltb-false}
+use Rattle.std.specs.Prelude.{Ok}
 use Rattle.model.specs.Tests.{Is}
 use Rattle.model.specs.Bytes.{Bytes}
 use Rattle.model.specs.Layout.{Plan, region_count, fields, statement_count, statement_b, statement_c}
-use Rattle.model.specs.Statements.{kind, opens_loop, opens, access_of, is_access, accesses, operand_definition, operand_region, field_by, access_field, centered, statement_formed_by, statement_formed, statement_check}
+use Rattle.model.specs.Statements.{kind, access_of, is_access, accesses, operand_definition, operand_region, field_by, access_field, centered, statement_formed_by, statement_formed, statement_check}
 use Rattle.model.specs.Parallel.{is_reduce, reduces}
 use Rattle.model.specs.declared.Access.{Access}
 use Rattle.model.specs.declared.StatementKind.{StatementKind}
 use Rattle.model.specs.declared.StatementKind.TheVariants.{For, Load, Call, Copy, Read, Write, Reduce, Unknown}
-use Rattle.model.specs.declared.Outcome.TheVariants.{Pass}
 use Rattle.model.proofs.Tests.{falsum, both, less}
 use Rattle.model.proofs.Outcomes.{then_pass, require_pass}
 use Rattle.loops.specs.declared.statements.Statement.{Statement}
+use Rattle.loops.specs.declared.tables.StatementTables.{StatementTables}
 use Rattle.loops.specs.Statements.{StatementAt}
 use Rattle.loops.specs.Parallel.{access_at, AccessLimits, LoopsKnown, PointersKnown}
 use Rattle.loops.proofs.StatementLaws.{operand_most}
 
--- what the kind that was read says of opening a loop
-pub opens_of_kind : (P : Plan) (s : ℕ) {k : StatementKind} {b : Bool} → k ≡ kind P s → b ≡ opens_loop k → b ≡ opens P s
-unfolding opens
-opens_of_kind P s k e = rw (e, k)
-
-module _ (P : Plan) {statements : Bytes} {operands regions : List ℕ} {centers : List Bool}
-    (known : LoopsKnown P statements operands regions centers) where
+module _ (P : Plan) {statements : Bytes} {tables : StatementTables} (known : LoopsKnown P statements tables) where
   pub access_is : {s : ℕ} → s < statement_count P → {r : Statement} → StatementAt P s r → {access : Access} {o region field : ℕ} {z : Bool}
-      → access ≡ access_of r.kind → field ≡ access_field P s → o ≡ get_or operands s 0 → region ≡ get_or regions o 0 → z ≡ get_or centers o false
+      → access ≡ access_of r.kind → field ≡ access_field P s → o ≡ get_or tables.operands s 0 → region ≡ get_or tables.variable_regions o 0 → z ≡ get_or tables.centered o false
       → record { access = access; region = region; field = field; centered = z; operator = r.c } ≡ access_at P s
   unfolding access_at
   access_is {s} lt is a g o r z =
@@ -50,10 +44,9 @@ module _ (P : Plan) {statements : Bytes} {operands regions : List ℕ} {centers 
         is.c_is,
       )
 
-module _ (P : Plan) {statements : Bytes} {operands : List ℕ} {centers : List Bool}
-    (known : PointersKnown P statements operands centers) where
+module _ (P : Plan) {statements : Bytes} {tables : StatementTables} (known : PointersKnown P statements tables) where
   -- whether the variable that statement s works on is centered
-  pub operand_centered : (s : ℕ) → s < statement_count P → {o : ℕ} {z : Bool} → o ≡ get_or operands s 0 → z ≡ get_or centers o false
+  pub operand_centered : (s : ℕ) → s < statement_count P → {o : ℕ} {z : Bool} → o ≡ get_or tables.operands s 0 → z ≡ get_or tables.centered o false
       → z ≡ centered P (operand_definition P s)
   operand_centered s lt o z =
       let earlier : operand_definition P s < statement_count P = omega (arith, operand_most P s) in
@@ -78,7 +71,7 @@ module _ (P : Plan) (few_regions : region_count P ≤ 16) (few_fields : (r : ℕ
       let few = field_limits g h in
       record { region_few = few.0; field_few = rw e few.1; operator_few = o }
 
-  pub access_limits : statement_check P s ≡ Pass → Is (accesses P s) → AccessLimits P s
+  pub access_limits : statement_check P s ≡ Ok tt → Is (accesses P s) → AccessLimits P s
   unfolding statement_check statement_formed statement_formed_by accesses is_access access_of access_field field_by reduces is_reduce
   access_limits h a = go (kind P s) refl (require_pass _ _ (then_pass _ _ h).0) a
     where

@@ -133,6 +133,15 @@ entered-length a seen = go (is_access a.access) _
     go true v = length-set seen _ v
     go false v = refl
 
+-- what is no access is not entered, and nothing is asked of it
+pub not_entered : (a : LoopAccess) (seen : List ℕ) → is_access a.access ≡ false → entered a seen ≡ seen
+unfolding entered pick
+not_entered a seen e = rw e
+
+pub not_asked : (a : LoopAccess) (seen : List ℕ) → is_access a.access ≡ false → admitted a seen ≡ true
+unfolding admitted ◌or◌ non
+not_asked a seen e = rw e
+
 -- an access is entered: what is stored, and what is asked of it
 module _ (a : LoopAccess) (seen : List ℕ) {target classes : ℕ} (access : Is (is_access a.access)) (t : target ≡ target_number a)
     (c : classes ≡ 2 ^ class a) where

@@ -2,26 +2,14 @@
 use Prim.Native.Nat.{ℕ}
 use mathlib.Core.Path.{◌≡◌, refl}
 use mathlib.Core.Bool.{true, false, ◌&&◌}
-use Rattle.model.specs.Tests.{◌and◌, ◌or◌, non}
-use Rattle.model.specs.Outcomes.{require}
+use Rattle.model.specs.Tests.{◌and◌}
 use Rattle.model.specs.Layout.{Plan}
-use Rattle.model.specs.Statements.{kind, access_of, is_access, opens, accesses, loop}
-use Rattle.model.specs.Parallel.{is_reduce, reduces, uncentered, access_of_loop, parallelizable, loop_check}
-use Rattle.model.specs.declared.Outcome.TheVariants.{Pass}
+use Rattle.model.specs.Statements.{kind, access_of, is_access, accesses, loop}
+use Rattle.model.specs.Parallel.{is_reduce, reduces, uncentered, access_of_loop}
 use Rattle.model.specs.declared.Access.{Access}
 use Rattle.model.specs.declared.Access.TheVariants.{Nothing, Reads, Writes, Reduces}
-use Rattle.model.specs.declared.Refusal.TheVariants.{NotParallelizable}
 use Rattle.model.proofs.Tests.{both, refuted, fails, same, same! }
 use Rattle.loops.specs.Parallel.{pointer_reduction}
-
--- the check of a statement that opens no loop, and of one that does
-pub no_loop : (P : Plan) (f : ℕ) → opens P f ≡ false → loop_check P f ≡ Pass
-unfolding loop_check require non ◌or◌
-no_loop P f o = rw o
-
-pub loop_checked : (P : Plan) (f : ℕ) → opens P f ≡ true → loop_check P f ≡ require (parallelizable P f) (NotParallelizable f)
-unfolding loop_check non ◌or◌
-loop_checked P f o = rw o
 
 -- an uncentered reduction of the loop stands in it
 pub other_reduction : (P : Plan) (f s : ℕ) → (loop P s ≡ f → ⊥) → pointer_reduction P f s ≡ false

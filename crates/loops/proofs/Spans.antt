@@ -1,25 +1,20 @@
 -- The statements of a loop stand together, from its FOR to the next, so that a pass over those alone decides. Assumes nothing.
-use Prim.Native.Nat.{ℕ, zero, suc, ◌+◌, ◌≤◌, ◌<◌}
-use mathlib.Core.Path.{◌≡◌, refl, sym, ◌∙◌}
-use mathlib.Core.Logic.{◌⊎◌, inl, inr}
+use Prim.Native.Nat.{ℕ, zero, suc, ◌+◌, ◌/◌, ◌≤◌, ◌<◌}
+use mathlib.Core.Path.{◌≡◌, refl, sym, ◌∙◌, subst}
+use mathlib.Core.Logic.{inl, inr}
 use mathlib.Core.Bool.{Bool, true, false}
 use native.Mathlib.Omega.{arith}
-use lib.Dec.{ltb}
-use borrow.Author.Tests.{ltb-true, ltb-false}
+use Rattle.std.specs.Prelude.{length, Option, Some, None, MatchOption}
+use Rattle.std.specs.Bool.{MatchBool}
+use Rattle.std.specs.Option.{unwrap_or}
+use Rattle.std.proofs.lemmas.Bool.{cases_lt}
 use Rattle.model.specs.Tests.{Is, any, pick}
+use Rattle.model.specs.Bytes.{Bytes}
 use Rattle.model.specs.Layout.{Plan, statement_count}
 use Rattle.model.specs.Statements.{opens, loop, loop_before}
-use Rattle.model.proofs.Tests.{falsum, fails, refuted, pick_true, pick-false, among}
+use Rattle.model.proofs.Tests.{falsum, pick_true, pick-false, among}
 use Rattle.primitives.proofs.Searches.{none_of}
 use Rattle.loops.specs.Parallel.{LoopSpan}
-
--- a number is below a bound or not
-side : (s t : ℕ) → (s < t) ⊎ (t ≤ s)
-side s t = go (ltb s t) refl
-  where
-    go : (b : Bool) → ltb s t ≡ b → (s < t) ⊎ (t ≤ s)
-    go true e = inl (ltb-true s t e)
-    go false e = inr (ltb-false s t e)
 
 module _ (P : Plan) where
   -- a loop opens at a statement or before it
@@ -58,60 +53,66 @@ module _ (P : Plan) where
   loop_least : (f s : ℕ) → Is (opens P f) → f ≤ s → f ≤ loop P s
   loop_least f s o le = before_least f (suc s) o (omega arith)
 
-  -- the statements from FOR f to before t are of its loop
-  abbrev pub Own : ℕ → ℕ → Type 0
-  Own f t = (s : ℕ) → f ≤ s → s < t → loop P s ≡ f
+  -- no loop opens between FOR f and t
+  abbrev pub NoneOpens : ℕ → ℕ → Type 0
+  NoneOpens f t = (s : ℕ) → f < s → s < t → opens P s ≡ false
 
-  pub own_start : (f : ℕ) → Is (opens P f) → Own f (f + 1)
-  own_start f o s a b = let e : s ≡ f = omega arith in rw e (opened f o)
-
-  pub own_next : (f t : ℕ) → f < t → opens P t ≡ false → Own f t → Own f (t + 1)
-  own_next f zero lt o own = absurd (omega arith)
-  own_next f (suc t) lt o own =
-      λ s a b. elim (side s (suc t)) [
-        | inl l ↦ own s a l
-        | inr g ↦ let e : s ≡ suc t = omega arith in rw e (kept (suc t) o ∙ own t (omega arith) (omega arith))
+  -- so the statements from f on are of its loop
+  own_loop : (f s t : ℕ) → Is (opens P f) → NoneOpens f t → f ≤ s → s < t → loop P s ≡ f
+  own_loop f zero t o none le lt = let e : f ≡ 0 = omega arith in subst (λ x. loop P x ≡ f) e (opened f o)
+  own_loop f (suc s) t o none le lt =
+      elim (cases_lt f (suc s)) [
+        | inl l ↦ kept (suc s) (none (suc s) l lt) ∙ own_loop f s t o none (omega arith) (omega arith)
+        | inr g ↦ let e : f ≡ suc s = omega arith in subst (λ x. loop P x ≡ f) e (opened f o)
       ]
 
   -- the loop ends before the next FOR, or at the last statement
-  module _ (f t : ℕ) (bound : t ≤ statement_count P) (own : Own f t) where
-    pub span_to_for : f < t → Is (opens P t) → LoopSpan P f t
-    span_to_for lt o =
-        record {
-          bound = bound;
-          own = own;
-          only = λ s inside e. (omega (arith, loop_most s), before s e);
-        }
-      where
-        before : (s : ℕ) → loop P s ≡ f → s < t
-        before s e = let m : ¬ (t ≤ s) = λ le. absurd (omega (arith, loop_least t s o le)) in omega arith
+  pub span_to : (f t : ℕ) → Is (opens P f) → NoneOpens f t → f < t → t ≤ statement_count P → (t < statement_count P → Is (opens P t)) → LoopSpan P f t
+  span_to f t o none lt bound next =
+      record {
+        bound = bound;
+        own = λ s le l. own_loop f s t o none le l;
+        only = λ s inside e. (omega (arith, loop_most s), before s inside e);
+      }
+    where
+      before : (s : ℕ) → s < statement_count P → loop P s ≡ f → s < t
+      before s inside e =
+          let m : ¬ (t ≤ s) = λ le. absurd (omega (arith, loop_least t s (next (omega arith)) le)) in omega arith
 
-    pub span_to_end : statement_count P ≤ t → LoopSpan P f t
-    span_to_end le = record { bound = bound; own = own; only = λ s inside e. (omega (arith, loop_most s), omega arith) }
+-- over the plans with these statements
+module _ (statements : Bytes) where
+  abbrev count : ℕ
+  count = length statements / 4
 
--- a search among the statements of the loop of FOR f decides of all statements, where it finds none of other loops
-module _ (P : Plan) (f : ℕ) (test : ℕ → Bool) where
-  earlier_loop : (s : ℕ) → s < f → loop P s ≡ f → ⊥
-  earlier_loop s lt e = absurd (omega (arith, loop_most P s))
+  -- whether statement t opens a loop
+  abbrev pub Told : Bool → ℕ → Type 0
+  Told b t = (P : Plan) → P.statements ≡ statements → opens P t ≡ b
 
-  later_loop : {end : ℕ} → LoopSpan P f end → (s : ℕ) → s < statement_count P → end ≤ s → loop P s ≡ f → ⊥
-  later_loop span s lt le e = absurd (omega (arith, (span.only s lt e).1))
+  -- the first after f that does, and where the loop that f opens ends
+  abbrev pub NextFor : ℕ → Option ℕ → Type 0
+  NextFor f r = MatchOption r ((t : ℕ) → f + 1 ≤ t → t < count → Told false t)
+      (λ t. (f + 1 ≤ t) × (t < count) × Told true t × ((s : ℕ) → f + 1 ≤ s → s < t → Told false s))
 
-  module _ (others : (s : ℕ) → (loop P s ≡ f → ⊥) → test s ≡ false) where
-    pub none_start : any f test ≡ false
-    none_start = none_of f test (λ s lt. others s (earlier_loop s lt))
+  pub span_found : (f : ℕ) → f < count → (r : Option ℕ) → NextFor f r
+      → (unwrap_or r count ≤ count) × ((P : Plan) → P.statements ≡ statements → Is (opens P f) → LoopSpan P f (unwrap_or r count))
+  span_found f inside None none = (
+    omega arith,
+    λ P section o. span_to P f count o (λ s l m. none s (omega arith) m P section) inside (rw section (omega arith)) (λ l. absurd (omega (arith, rw section at l))),
+  )
+  span_found f inside (Some t) (le, lt, here, none) = (
+    omega arith,
+    λ P section o. span_to P f t o (λ s l m. none s (omega arith) m P section) (omega arith) (rw section (omega arith)) (λ l. here P section),
+  )
 
-    pub none_end : {end s : ℕ} → LoopSpan P f end → end ≤ s → any s test ≡ false → false ≡ any (statement_count P) test
-    none_end {s = t} span le h = sym (none_of (statement_count P) test at)
-      where
-        at : (s : ℕ) → s < statement_count P → test s ≡ false
-        at s lt =
-            elim (side s t) [
-              | inl l ↦ fails (refuted (λ y. falsum (sym h ∙ among (s, l, y))))
-              | inr g ↦ others s (later_loop span s lt (omega arith))
-            ]
-
--- statement s of the loop passes
-pub some_found : (test : ℕ → Bool) {P : Plan} {f end s : ℕ} {outcome : Bool} → outcome ≡ test s → LoopSpan P f end → s < end → outcome ≡ true
-    → true ≡ any (statement_count P) test
-some_found test {s = s} is span inside found = sym (among {f = test} (s, omega (arith, span.bound), sym is ∙ found))
+-- a search among the statements of the loop of FOR f decides of all statements, where none of other loops passes
+pub span_decides : (P : Plan) {f end : ℕ} {test : ℕ → Bool} → LoopSpan P f end → ((s : ℕ) → (loop P s ≡ f → ⊥) → test s ≡ false) → (r : Bool)
+    → MatchBool r ((s : ℕ) × (f ≤ s) × (s < end) × Is (test s)) ((s : ℕ) → f ≤ s → s < end → test s ≡ false) → r ≡ any (statement_count P) test
+span_decides P {test = test} span others true (s, le, lt, h) = sym (among {f = test} (s, omega (arith, span.bound), h))
+span_decides P {f} {end} {test} span others false none = sym (none_of (statement_count P) test at)
+  where
+    at : (s : ℕ) → s < statement_count P → test s ≡ false
+    at s lt =
+        elim (cases_lt s end) [
+          | inl l ↦ elim (cases_lt s f) [ inl m ↦ others s (λ e. absurd (omega (arith, (span.only s lt e).0))) | inr m ↦ none s m l ]
+          | inr m ↦ others s (λ e. absurd (omega (arith, (span.only s lt e).1)))
+        ]

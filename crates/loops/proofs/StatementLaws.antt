@@ -5,27 +5,28 @@ use mathlib.Core.List.{List}
 use mathlib.Core.Bool.{Bool, true, false, or-false}
 use native.Mathlib.Numerals.{add-one}
 use native.Mathlib.Omega.{arith}
-use lib.ListN.{length, get_or, set, replicate, length-set}
+use lib.ListN.{length, get_or, set, take, replicate, length-set}
 use lib.Seq.{get_or-set_same, get_or-set_other}
 use lib.Dec.{eqb}
 use borrow.Author.Tests.{eqb-true, eqb-false}
+use Rattle.std.specs.Prelude.{Ok}
 use Rattle.model.specs.Tests.{Is, ◌and◌, ◌or◌, ◌=?◌, pick}
 use Rattle.model.specs.Recursion.{below}
 use Rattle.model.specs.Layout.{Plan, statement_count}
 use Rattle.model.specs.Statements.{kind, opens_loop, opens, defines_variable, defines, variables, definition, operand, operand_definition, region_by, variable_region, centered_by, centered, statement_formed_by, statement_formed, statement_check}
 use Rattle.model.specs.declared.StatementKind.{StatementKind}
 use Rattle.model.specs.declared.StatementKind.TheVariants.{For, Load, Call, Copy, Read, Write, Reduce, Unknown}
-use Rattle.model.specs.declared.Outcome.{Outcome}
-use Rattle.model.specs.declared.Outcome.TheVariants.{Pass}
 use Rattle.model.proofs.Tests.{falsum, both, less, less!, pick_true, pick-false}
 use Rattle.model.proofs.Outcomes.{then_pass, require_pass}
 use Rattle.model.proofs.Recursion.{course_law}
 use Rattle.primitives.proofs.Filling.{zeros}
 use Rattle.primitives.proofs.Scanning.{Scanning, scanning_start, scanning_next}
 use Rattle.loops.specs.declared.statements.StatementEntry.{StatementEntry}
-use Rattle.loops.specs.Tables.{Table, StatementTables}
-use Rattle.loops.specs.Statements.{StatementContext, Variables, variables_of, LoopVariables, EntryAt, variables_after}
-use Rattle.loops.proofs.Tables.{empty, stored, earlier_holds}
+use Rattle.loops.specs.declared.tables.StatementTables.{StatementTables}
+use Rattle.loops.specs.declared.variables.Variables.{Variables}
+use Rattle.loops.specs.Tables.{Table, TablesHold, with_entry}
+use Rattle.loops.specs.Statements.{StatementContext, variables_of, LoopVariables, EntryAt, variables_after}
+use Rattle.loops.proofs.TableLaws.{empty, stored, earlier_holds}
 
 -- a list after a store, at every place
 set-pick : (xs : List ℕ) (at v k : ℕ) → at < length xs → get_or (set xs at v) k 0 ≡ pick (k =? at) v (get_or xs k 0)
@@ -110,7 +111,7 @@ module _ (P : Plan) where
               })
 
     -- a statement that passed defines no seventeenth variable
-    pub room_left : statement_check P s ≡ Pass → Is (defines P s) → variables P s < 16
+    pub room_left : statement_check P s ≡ Ok tt → Is (defines P s) → variables P s < 16
     unfolding statement_check statement_formed statement_formed_by defines defines_variable
     room_left h d = go (kind P s) (require_pass _ _ (then_pass _ _ h).0) d
       where
@@ -125,11 +126,11 @@ module _ (P : Plan) where
         go Unknown f d = falsum d
 
     -- region and centeredness of the variable that statement s defines, from those of the variable that it copies
-    pub region_value : {o copied : ℕ} {table : List ℕ} → Table 0 s table (variable_region P) → o ≡ operand_definition P s
-        → copied ≡ below 0 s (λ d. get_or table d 0) o → region_by P (kind P s) s (λ d. copied) ≡ variable_region P s
+    pub region_value : s < 64 → {o copied : ℕ} {table : List ℕ} → Table 0 s table (variable_region P) → o ≡ operand_definition P s
+        → copied ≡ get_or (take s table) o 0 → region_by P (kind P s) s (λ d. copied) ≡ variable_region P s
     unfolding region_by variable_region
-    region_value {o} {copied} holds e c =
-        by_kind (kind P s) (rw e at (c ∙ earlier_holds 0 holds o)) ∙ sym (course_law 0 (λ t earlier. region_by P (kind P t) t earlier) s)
+    region_value few {o} {copied} holds e c =
+        by_kind (kind P s) (rw e at (c ∙ earlier_holds 0 few holds o)) ∙ sym (course_law 0 (λ t earlier. region_by P (kind P t) t earlier) s)
       where
         by_kind : (k : StatementKind) → copied ≡ below 0 s (variable_region P) (operand_definition P s)
             → region_by P k s (λ d. copied) ≡ region_by P k s (below 0 s (variable_region P))
@@ -142,11 +143,11 @@ module _ (P : Plan) where
         by_kind Reduce h = refl
         by_kind Unknown h = refl
 
-    pub centered_value : {o : ℕ} {copied : Bool} {table : List Bool} → Table false s table (centered P) → o ≡ operand_definition P s
-        → copied ≡ below false s (λ d. get_or table d false) o → centered_by P (kind P s) s (λ d. copied) ≡ centered P s
+    pub centered_value : s < 64 → {o : ℕ} {copied : Bool} {table : List Bool} → Table false s table (centered P) → o ≡ operand_definition P s
+        → copied ≡ get_or (take s table) o false → centered_by P (kind P s) s (λ d. copied) ≡ centered P s
     unfolding centered_by centered
-    centered_value {o} {copied} holds e c =
-        by_kind (kind P s) (rw e at (c ∙ earlier_holds false holds o)) ∙ sym (course_law false (λ t earlier. centered_by P (kind P t) t earlier) s)
+    centered_value few {o} {copied} holds e c =
+        by_kind (kind P s) (rw e at (c ∙ earlier_holds false few holds o)) ∙ sym (course_law false (λ t earlier. centered_by P (kind P t) t earlier) s)
       where
         by_kind : (k : StatementKind) → copied ≡ below false s (centered P) (operand_definition P s)
             → centered_by P k s (λ d. copied) ≡ centered_by P k s (below false s (centered P))
@@ -160,49 +161,48 @@ module _ (P : Plan) where
         by_kind Unknown h = refl
 
 -- what the pass over the statements holds before statement s
-pub record StatementPass (P : Plan) (s : ℕ) (v : Variables) (operands regions : List ℕ) (centers : List Bool) : Type 0 where
+pub record StatementPass (P : Plan) (s : ℕ) (v : Variables) (tables : StatementTables) : Type 0 where
   pub scanning : Scanning (statement_check P) (statement_count P) s
   pub variables_are : LoopVariables P s v
-  pub tables : StatementTables P s operands regions centers
+  pub tables_are : TablesHold P s tables
 
-pub pass_start : (P : Plan) → StatementPass P 0 (variables_of 0 (replicate 16 0)) (replicate 64 0) (replicate 64 0) (replicate 64 false)
+pub pass_start : (P : Plan) → StatementPass P 0 (variables_of 0 (replicate 16 0))
+    (record { operands = replicate 64 0; variable_regions = replicate 64 0; centered = replicate 64 false })
 pass_start P =
     record {
       scanning = scanning_start _ _;
       variables_are = variables_start P;
-      tables = record { operands_are = empty; regions_are = empty; centers_are = empty };
+      tables_are = record { operands_are = empty; regions_are = empty; centers_are = empty };
     }
 
-module _ (P : Plan) {s : ℕ} {operands regions : List ℕ} {centers : List Bool} {v : Variables}
-    (pass : StatementPass P s v operands regions centers) where
+module _ (P : Plan) {s : ℕ} {tables : StatementTables} {v : Variables} (pass : StatementPass P s v tables) where
   -- the tables with statement s entered, and what its check asks of them
   module _ {entry : StatementEntry} (few : s < 64) (e : EntryAt P s entry) where
-    pub entered : StatementTables P (s + 1) (set operands s entry.operand) (set regions s entry.region) (set centers s entry.centered)
+    pub entered : TablesHold P (s + 1) (with_entry s entry tables)
     entered =
         record {
-          operands_are = stored few e.operand_is pass.tables.operands_are;
-          regions_are = stored few e.region_is pass.tables.regions_are;
-          centers_are = stored few e.centered_is pass.tables.centers_are;
+          operands_are = stored few e.operand_is pass.tables_are.operands_are;
+          regions_are = stored few e.region_is pass.tables_are.regions_are;
+          centers_are = stored few e.centered_is pass.tables_are.centers_are;
         }
 
-    pub context : {operand region : ℕ} → operand ≡ entry.operand → region ≡ get_or (set regions s entry.region) operand 0
+    pub context : {region : ℕ} → region ≡ get_or (with_entry s entry tables).variable_regions entry.operand 0
         → StatementContext P s v.count region
-    context o r =
+    context r =
         record {
           count_is = pass.variables_are.count_is;
-          region_is = let at = o ∙ e.operand_is in r ∙ rw at (entered.regions_are.holds _ (omega (arith, operand_most P s)));
+          region_is = r ∙ rw e.operand_is (entered.regions_are.holds _ (omega (arith, operand_most P s)));
         }
 
-    pub pass_next : {o : Outcome} {k : StatementKind} {v' : Variables} → s < statement_count P → o ≡ statement_check P s → o ≡ Pass
-        → k ≡ kind P s → v' ≡ variables_after k s v
-        → StatementPass P (s + 1) v' (set operands s entry.operand) (set regions s entry.region) (set centers s entry.centered)
-    pass_next lt o p k w =
+    pub pass_next : s < statement_count P → statement_check P s ≡ Ok tt
+        → StatementPass P (s + 1) (variables_after (kind P s) s v) (with_entry s entry tables)
+    pass_next lt p =
         let held = pass.variables_are in
         record {
-          scanning = scanning_next pass.scanning lt o p;
-          variables_are = rw (w, k) (variables_next P s v (λ d. rw held.count_is (room_left P s (sym o ∙ p) d)) held);
-          tables = entered;
+          scanning = scanning_next pass.scanning lt refl p;
+          variables_are = variables_next P s v (λ d. rw held.count_is (room_left P s p d)) held;
+          tables_are = entered;
         }
 
-  pub pass_end : statement_count P ≤ s → StatementTables P (statement_count P) operands regions centers
-  pass_end le = let all : statement_count P ≡ s = omega (arith, pass.scanning.few) in rw all pass.tables
+  pub pass_end : statement_count P ≤ s → TablesHold P (statement_count P) tables
+  pass_end le = let all : statement_count P ≡ s = omega (arith, pass.scanning.few) in rw all pass.tables_are

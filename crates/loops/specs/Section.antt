@@ -1,12 +1,12 @@
 -- The plans that section 4's reader speaks of, and what it answers of them.
-use Rattle.std.specs.Prelude.{ℕ, ◌≤◌, ◌<◌, ◌≡◌}
+use Rattle.std.specs.Prelude.{ℕ, ◌≤◌, ◌<◌, ◌≡◌, Result, Ok, Err}
 use Rattle.model.specs.Bytes.{Bytes}
 use Rattle.model.specs.Outcomes.{◌then◌}
 use Rattle.model.specs.Layout.{Plan, region_count, fields, statement_count}
 use Rattle.model.specs.Verdict.{statements_check, loops_check}
-use Rattle.model.specs.declared.Outcome.TheVariants.{Pass}
-use Rattle.loops.specs.declared.section.CheckedStatements.{CheckedStatements}
-use Rattle.loops.specs.Tables.{StatementTables}
+use Rattle.model.specs.declared.Refusal.{Refusal}
+use Rattle.loops.specs.declared.tables.StatementTables.{StatementTables}
+use Rattle.loops.specs.Tables.{TablesHold}
 
 module _ (P : Plan) where
   -- a plan of these regions, maps and statements, with at most 16 regions of at most 8 fields
@@ -17,7 +17,7 @@ module _ (P : Plan) where
     pub few_regions : region_count P ≤ 16
     pub few_fields : (r : ℕ) → r < region_count P → fields P r ≤ 8
 
-  -- the outcome of section 4 and its loops and, after a pass, the tables of the statements
-  pub record StatementsChecked (r : CheckedStatements) : Type 0 where
-    pub outcome : r.outcome ≡ (statements_check P then loops_check P)
-    pub tables : r.outcome ≡ Pass → StatementTables P (statement_count P) r.operands r.variable_regions r.centered
+-- section 4 and its loops pass, and the tables are those of the statements; or they are refused
+abbrev pub StatementsChecked : Plan → Result StatementTables Refusal → Type 0
+StatementsChecked P (Ok tables) = ((statements_check P then loops_check P) ≡ Ok tt) × TablesHold P (statement_count P) tables
+StatementsChecked P (Err r) = (statements_check P then loops_check P) ≡ Err r

@@ -1,27 +1,25 @@
-// What the kind of a statement says, one case for each kind.
+// What the kind of a statement says, one case for each kind: a table with no case for the rest is the project's form, so that a
+// new kind is asked for everywhere.
 ghost use Rattle.std.specs.Prelude.{◌≡◌};
 ghost use Rattle.model.specs.Statements.{kind_of, opens_loop, defines_variable, access_of, is_access};
 ghost use Rattle.model.specs.Parallel.{is_reduce};
 
 use model::{Access, StatementKind};
 
-// The kind that a statement's first byte stands for.
-pub fn kind_of(byte: usize) -> StatementKind
-    ensures { result ≡ kind_of byte }
+// The kind that a number stands for.
+#[tactic(auto, using(primitives::proofs::NoKinds::no_statement_kind))]
+pub fn kind_of(number: usize) -> StatementKind
+    ensures { result ≡ kind_of number }
 {
-    match byte {
-        0 => StatementKind::For,
-        1 => StatementKind::Load,
-        2 => StatementKind::Call,
-        3 => StatementKind::Copy,
-        4 => StatementKind::Read,
-        5 => StatementKind::Write,
-        6 => StatementKind::Reduce,
-        _ => StatementKind::Unknown,
+    if number < 256 {
+        StatementKind::from(number as u8)
+    } else {
+        StatementKind::Unknown
     }
 }
 
 // Whether the statement opens a loop.
+#[tactic(auto, unfolding(model::specs::Statements::opens_loop))]
 pub fn opens_loop(kind: StatementKind) -> bool
     ensures { result ≡ opens_loop kind }
 {
@@ -38,6 +36,7 @@ pub fn opens_loop(kind: StatementKind) -> bool
 }
 
 // Whether the statement defines its loop's next variable.
+#[tactic(auto, unfolding(model::specs::Statements::defines_variable))]
 pub fn defines_variable(kind: StatementKind) -> bool
     ensures { result ≡ defines_variable kind }
 {
@@ -54,6 +53,7 @@ pub fn defines_variable(kind: StatementKind) -> bool
 }
 
 // How the statement accesses the element of its variable. LOAD is a read too.
+#[tactic(auto, unfolding(model::specs::Statements::access_of))]
 pub fn access_of(kind: StatementKind) -> Access
     ensures { result ≡ access_of kind }
 {
@@ -70,25 +70,17 @@ pub fn access_of(kind: StatementKind) -> Access
 }
 
 // Whether there is an access.
+#[tactic(auto, unfolding(model::specs::Statements::is_access))]
 pub fn is_access(access: Access) -> bool
     ensures { result ≡ is_access access }
 {
-    match access {
-        Access::Nothing => false,
-        Access::Reads => true,
-        Access::Writes => true,
-        Access::Reduces => true,
-    }
+    access != Access::Nothing
 }
 
 // Whether the access is a reduction.
+#[tactic(auto, unfolding(model::specs::Parallel::is_reduce))]
 pub fn is_reduce(access: Access) -> bool
     ensures { result ≡ is_reduce access }
 {
-    match access {
-        Access::Nothing => false,
-        Access::Reads => false,
-        Access::Writes => false,
-        Access::Reduces => true,
-    }
+    access == Access::Reduces
 }

@@ -6,3 +6,5 @@ pub mod lookup;
 pub mod parallel;
 pub mod section;
 pub mod statements;
+pub mod tables;
+pub mod variables;

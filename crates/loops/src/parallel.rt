@@ -1,4 +1,7 @@
 // Which loops can run in parallel, by the classes of accesses that each region and field has in a loop.
+// The statements and the tables made of them are two parameters: a struct of the two references would put `self.entry` before
+// both in each clause, and say no more.
+// What stands in each clause is of both, the slice that section 4's reader is handed and the tables: no field of either.
 ghost use Rattle.std.specs.Prelude.{◌≡◌, ◌/◌, ◌^◌, ◌<◌, ◌≤◌, length};
 ghost use Rattle.model.specs.Tests.{Is};
 ghost use Rattle.model.specs.Layout.{Plan, statement_count};
@@ -9,10 +12,12 @@ ghost use Rattle.loops.specs.Parallel.{Within, access_at, LoopsKnown, LoopSpan, 
 
 use crate::kinds::{access_of, is_access, is_reduce, opens_loop};
 use crate::statements::{field_of, kind_at, statement_at};
-use model::{Access, Outcome, Refusal};
-use primitives::bytes::{byte_at, usize_of};
-use primitives::lookup::flag_at;
+use crate::tables::StatementTables;
+use model::{Access, Refusal};
+use primitives::bytes::byte_at;
+use primitives::lookup::entry_or;
 use primitives::outcomes::require;
+use std::ops::Range;
 
 // What a statement accesses: how, which region and field, through a centered variable or not, and with which operator.
 #[derive(Clone, Copy)]
@@ -24,74 +29,73 @@ pub struct LoopAccess {
     pub operator: u8,
 }
 
-// The statements of a loop: from its FOR to before `end`.
-#[derive(Clone, Copy)]
-pub struct LoopRange {
-    pub first: usize,
-    pub end: usize,
-}
-
 // The access of statement s.
-fn loop_access(
-    statements: &[u8],
-    operands: &[u8],
-    variable_regions: &[u8],
-    centered: &[bool],
-    s: usize,
-) -> LoopAccess
+#[tactic(auto, using(crate::proofs::Accesses::access_is))]
+fn loop_access(statements: &[u8], tables: &StatementTables, s: usize) -> LoopAccess
     requires { Within statements.now s }
-    ensures { (P : Plan) → LoopsKnown P statements.now operands.now variable_regions.now centered.now → result ≡ access_at P s }
+    ensures { (P : Plan) → LoopsKnown P statements.now tables.now → result ≡ access_at P s }
 {
     let statement = statement_at(statements, s);
-    let kind = statement.kind;
-    let access = access_of(kind);
+    // In this order: with the operand looked up first, section 4 takes a fifth longer on a loop of 64 statements.
+    let access = access_of(statement.kind);
     let field = field_of(statement);
-    let operand = byte_at(operands, s);
-    let region = byte_at(variable_regions, operand);
-    let through_centered = flag_at(centered, operand);
+    let operand = byte_at(&tables.operands, s);
     LoopAccess {
         access,
-        region,
+        region: byte_at(&tables.variable_regions, operand),
         field,
-        centered: through_centered,
+        centered: entry_or(&tables.centered, operand, false),
         operator: statement.c,
     }
 }
 
 // The number of an access's region and field, of 16 regions with 8 fields each. Numbers of a plan are below those, and
 // the remainders change none; they keep the table's bound for every byte.
+#[tactic(auto, unfolding(crate::specs::Parallel::target_number))]
 fn target_number(a: LoopAccess) -> usize
     ensures { (result ≡ target_number a) × (result < 128) }
 {
-    a.region % 16 * 8 + usize_of(a.field % 8)
+    a.region % 16 * 8 + usize::from(a.field % 8)
 }
 
-// The class of an access, as one bit of a byte. From the lowest: a centered read, another read, a centered write or
-// reduction, another write, another reduction by each of the operators.
+// The classes of accesses, a bit each and no enum: what is seen of a region and field is a byte, entered by an or and judged by
+// masks, so that a loop takes one pass and 128 bytes.
+const CENTERED_READ: u8 = 1;
+
+const POINTER_READ: u8 = 2;
+
+const CENTERED_CHANGE: u8 = 4;
+
+const POINTER_WRITE: u8 = 8;
+
+// By the first operator; the others' follow.
+const POINTER_REDUCTION: u8 = 16;
+
+// Accesses through pointers.
+const THROUGH_POINTERS: u8 = !(CENTERED_READ | CENTERED_CHANGE);
+
+// Writes and reductions.
+const CHANGES: u8 = !(CENTERED_READ | POINTER_READ);
+
+// The class of an access.
+#[tactic(auto, using(crate::proofs::Classes::operator_bit), unfolding(crate::specs::Parallel::class, crate::specs::Parallel::class_by, model::specs::Tests::pick))]
 fn class_bit(a: LoopAccess) -> u8
     ensures { result ≡ 2 ^ class a }
 {
-    let access = a.access;
-    match access {
-        Access::Nothing => 1,
-        Access::Reads => if a.centered { 1 } else { 2 },
-        Access::Writes => if a.centered { 4 } else { 8 },
-        Access::Reduces => if a.centered {
-            4
-        } else {
-            16 << (a.operator % 4)
-        },
+    match (a.access, a.centered) {
+        (Access::Nothing, _) => CENTERED_READ,
+        (Access::Reads, true) => CENTERED_READ,
+        (Access::Reads, false) => POINTER_READ,
+        (Access::Writes, true) => CENTERED_CHANGE,
+        (Access::Writes, false) => POINTER_WRITE,
+        (Access::Reduces, true) => CENTERED_CHANGE,
+        (Access::Reduces, false) => POINTER_REDUCTION << (a.operator % 4),
     }
 }
 
-// Accesses through pointers.
-const THROUGH_POINTERS: u8 = 0xFA;
-
-// Writes and reductions.
-const CHANGES: u8 = 0xFC;
-
 // Whether accesses of these classes can share a region and field: nothing goes through a pointer, nothing is changed, or
 // all are reductions through pointers by one operator.
+#[tactic(auto, using(crate::proofs::Classes::byte_rule))]
 fn is_compatible(classes: u8) -> bool
     ensures { result ≡ compatible classes }
 {
@@ -100,12 +104,11 @@ fn is_compatible(classes: u8) -> bool
 }
 
 // Enters an access among those of its region and field; whether the loop can be parallelizable with it.
+#[tactic(auto, using(crate::proofs::Classes::not_entered, crate::proofs::Classes::entered_is, crate::proofs::Classes::not_asked, crate::proofs::Classes::admitted_is))]
 fn enter_access(seen: &mut [u8; 128], a: LoopAccess) -> bool
-    requires { length seen.old ≡ 128 }
     ensures { (seen.new ≡ entered a seen.old) × (result ≡ admitted a seen.new) }
 {
-    let access = a.access;
-    if !is_access(access) {
+    if !is_access(a.access) {
         return true;
     }
     let target = target_number(a);
@@ -114,114 +117,73 @@ fn enter_access(seen: &mut [u8; 128], a: LoopAccess) -> bool
     is_compatible(classes)
 }
 
-// Where the loop that statement f opens ends: at the next statement that opens a loop, or past the last.
-fn loop_end(statements: &[u8], f: usize) -> usize
+// The statements of the loop that statement f opens: up to the next that opens a loop, or to the last.
+fn loop_statements(statements: &[u8], f: usize) -> Range<usize>
     requires { Within statements.now f }
-    ensures { (result ≤ length statements.now / 4) × ((P : Plan) → P.statements ≡ statements.now → Is (opens P f) → LoopSpan P f result) }
+    ensures { (result.start ≡ f) × (result.end ≤ length statements.now / 4) × ((P : Plan) → P.statements ≡ statements.now → Is (opens P f) → LoopSpan P f result.end) }
 {
-    let mut t = f + 1;
-    while t < statements.len() / 4 {
-        if opens_loop(kind_at(statements, t)) {
-            return t;
-        }
-        t += 1;
-    }
-    t
+    let count = statements.len() / 4;
+    let end = (f + 1..count)
+        .find(|t| opens_loop(kind_at(statements, *t)))
+        .unwrap_or(count);
+    f..end
 }
 
-// Whether a loop is parallelizable, in one pass.
-fn is_parallelizable(
-    statements: &[u8],
-    operands: &[u8],
-    variable_regions: &[u8],
-    centered: &[bool],
-    range: LoopRange,
-) -> bool
-    requires { (range.end ≤ length statements.now / 4) × (length statements.now / 4 ≤ 64) }
-    ensures { (P : Plan) → LoopsKnown P statements.now operands.now variable_regions.now centered.now → LoopSpan P range.first range.end → result ≡ parallelizable P range.first }
+// Whether the loop that statement f opens is parallelizable, in one pass.
+fn is_parallelizable(statements: &[u8], tables: &StatementTables, f: usize) -> bool
+    requires { Within statements.now f }
+    ensures { (P : Plan) → LoopsKnown P statements.now tables.now → Is (opens P f) → result ≡ parallelizable P f }
 {
-    let end = range.end;
     // The classes of the accesses so far, by region and field.
-    let mut seen = [0u8; 128];
-    let mut s = range.first;
-    while s < end {
-        let a = loop_access(statements, operands, variable_regions, centered, s);
-        if !enter_access(&mut seen, a) {
+    let mut seen = [0; 128];
+    for s in loop_statements(statements, f) {
+        if !enter_access(&mut seen, loop_access(statements, tables, s)) {
             return false;
         }
-        s += 1;
     }
     true
 }
 
 // The check of statement f: a loop that it opens is parallelizable.
-fn check_loop(
-    statements: &[u8],
-    operands: &[u8],
-    variable_regions: &[u8],
-    centered: &[bool],
-    f: usize,
-) -> Outcome
+#[tactic(auto, using(primitives::proofs::OpenTests::tests_open), unfolding(model::specs::Parallel::loop_check, model::specs::Statements::opens, model::specs::Outcomes::require))]
+fn check_loop(statements: &[u8], tables: &StatementTables, f: usize) -> Result<(), Refusal>
     requires { Within statements.now f }
-    ensures { (P : Plan) → LoopsKnown P statements.now operands.now variable_regions.now centered.now → result ≡ loop_check P f }
+    ensures { (P : Plan) → LoopsKnown P statements.now tables.now → result ≡ loop_check P f }
 {
     if !opens_loop(kind_at(statements, f)) {
-        return Outcome::Pass;
+        return Ok(());
     }
-    let end = loop_end(statements, f);
-    let range = LoopRange { first: f, end };
-    let parallel = is_parallelizable(statements, operands, variable_regions, centered, range);
+    let parallel = is_parallelizable(statements, tables, f);
     require(parallel, Refusal::NotParallelizable(f))
 }
 
 // The check of the loops, after section 4.
-pub fn check_loops(
-    statements: &[u8],
-    operands: &[u8],
-    variable_regions: &[u8],
-    centered: &[bool],
-) -> Outcome
+#[tactic(auto, using(primitives::proofs::Scanning::scanned))]
+pub fn check_loops(statements: &[u8], tables: &StatementTables) -> Result<(), Refusal>
     requires { length statements.now / 4 ≤ 64 }
-    ensures { (P : Plan) → LoopsKnown P statements.now operands.now variable_regions.now centered.now → result ≡ loops_check P }
+    ensures { (P : Plan) → LoopsKnown P statements.now tables.now → result ≡ loops_check P }
 {
-    let mut f = 0;
-    while f < statements.len() / 4 {
-        match check_loop(statements, operands, variable_regions, centered, f) {
-            Outcome::Pass => {}
-            Outcome::Refuse(refusal) => return Outcome::Refuse(refusal),
-        }
-        f += 1;
+    for f in 0..statements.len() / 4 {
+        check_loop(statements, tables, f)?;
     }
-    Outcome::Pass
+    Ok(())
 }
 
 // Whether statement s is a reduction through a variable that is not centered.
-fn is_pointer_reduction(statements: &[u8], operands: &[u8], centered: &[bool], s: usize) -> bool
+#[tactic(auto, using(primitives::proofs::OpenTests::tests_open, crate::proofs::Accesses::operand_centered, crate::proofs::Parallelizable::own_reduction), unfolding(model::specs::Parallel::reduces, model::specs::Parallel::uncentered))]
+fn is_pointer_reduction(statements: &[u8], tables: &StatementTables, s: usize) -> bool
     requires { s < 64 }
-    ensures { (P : Plan) → PointersKnown P statements.now operands.now centered.now → s < statement_count P → result ≡ pointer_reduction P (loop P s) s }
+    ensures { (P : Plan) → PointersKnown P statements.now tables.now → s < statement_count P → result ≡ pointer_reduction P (loop P s) s }
 {
     let access = access_of(kind_at(statements, s));
-    let operand = byte_at(operands, s);
-    is_reduce(access) & !flag_at(centered, operand)
+    let operand = byte_at(&tables.operands, s);
+    is_reduce(access) & !entry_or(&tables.centered, operand, false)
 }
 
 // Whether the loop that statement f opens reduces through a pointer.
-pub fn reduces_through_pointer(
-    statements: &[u8],
-    operands: &[u8],
-    centered: &[bool],
-    f: usize,
-) -> bool
+pub fn reduces_through_pointer(statements: &[u8], tables: &StatementTables, f: usize) -> bool
     requires { Within statements.now f }
-    ensures { (P : Plan) → PointersKnown P statements.now operands.now centered.now → Is (opens P f) → result ≡ reduces_through_pointer P f }
+    ensures { (P : Plan) → PointersKnown P statements.now tables.now → Is (opens P f) → result ≡ reduces_through_pointer P f }
 {
-    let end = loop_end(statements, f);
-    let mut s = f;
-    while s < end {
-        if is_pointer_reduction(statements, operands, centered, s) {
-            return true;
-        }
-        s += 1;
-    }
-    false
+    loop_statements(statements, f).any(|s| is_pointer_reduction(statements, tables, s))
 }

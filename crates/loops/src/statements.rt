@@ -1,14 +1,19 @@
-// A statement of section 4: its record, the variables before and after it, what it adds to the tables, and its check.
+// A statement of section 4: its record, what it adds to the tables, and its check.
+// Regions and maps are two parameters: whoever calls holds them as two sections, and a struct of the two would be made for this
+// file alone.
+// Numbers are narrowed by `as`: the bound is proved, and `try_from` would have a case that never comes.
 ghost use Rattle.std.specs.Prelude.{◌≡◌, ℕ, ◌/◌, ◌<◌, length};
 ghost use Rattle.model.specs.Layout.{Plan};
 ghost use Rattle.model.specs.Statements.{kind, operand, access_field, operand_region, region_by, centered_by, statement_formed, statement_agrees, statement_check};
-ghost use Rattle.loops.specs.Statements.{StatementAt, StatementContext, EarlierStatements, EntryAt, variables_of, variables_after};
+ghost use Rattle.loops.specs.Statements.{StatementAt, StatementContext, EarlierStatements, EntryAt};
 
-use crate::kinds::{defines_variable, kind_of, opens_loop};
-use crate::lookup::{earlier_byte, earlier_flag};
-use model::{Outcome, Refusal, StatementKind};
-use primitives::bytes::{byte_at, usize_of};
-use primitives::outcomes::{and_then, require};
+use crate::lookup::earlier;
+use crate::tables::StatementTables;
+use crate::variables::Variables;
+use model::{Refusal, StatementKind};
+use primitives::bytes::byte_at;
+use primitives::lookup::entry_or;
+use primitives::outcomes::require;
 use primitives::records::{map_source, map_target};
 
 // A record of section 4.
@@ -30,31 +35,34 @@ pub struct StatementEntry {
 }
 
 // The kind of a statement.
+#[tactic(auto, unfolding(model::specs::Statements::kind))]
 pub fn kind_at(statements: &[u8], s: usize) -> StatementKind
     requires { s < 64 }
     ensures { (P : Plan) → P.statements ≡ statements.now → result ≡ kind P s }
 {
-    kind_of(byte_at(statements, s * 4))
+    StatementKind::from(entry_or(statements, s * 4, 0))
 }
 
 // The record of statement s.
+#[tactic(auto, unfolding(model::specs::Statements::kind))]
 pub fn statement_at(statements: &[u8], s: usize) -> Statement
     requires { s < length statements.now / 4 }
     ensures { (P : Plan) → P.statements ≡ statements.now → StatementAt P s result }
 {
-    let kind = kind_of(usize_of(statements[s * 4]));
-    let a = statements[s * 4 + 1];
-    let b = statements[s * 4 + 2];
-    let c = statements[s * 4 + 3];
-    Statement { kind, a, b, c }
+    Statement {
+        kind: StatementKind::from(statements[s * 4]),
+        a: statements[s * 4 + 1],
+        b: statements[s * 4 + 2],
+        c: statements[s * 4 + 3],
+    }
 }
 
 // The number of the variable that a statement works on.
+#[tactic(auto, unfolding(model::specs::Statements::operand, model::specs::Statements::operand_by))]
 fn operand_of(statement: Statement) -> u8
     ensures { (P : Plan) (s : ℕ) → StatementAt P s statement → result ≡ operand P s }
 {
-    let kind = statement.kind;
-    match kind {
+    match statement.kind {
         StatementKind::For => 0,
         StatementKind::Load => statement.b,
         StatementKind::Call => statement.b,
@@ -67,11 +75,11 @@ fn operand_of(statement: Statement) -> u8
 }
 
 // The field that a statement names, if it is an access: LOAD names it last, the others before that.
+#[tactic(auto, unfolding(model::specs::Statements::access_field, model::specs::Statements::field_by))]
 pub fn field_of(statement: Statement) -> u8
     ensures { (P : Plan) (s : ℕ) → StatementAt P s statement → result ≡ access_field P s }
 {
-    let kind = statement.kind;
-    match kind {
+    match statement.kind {
         StatementKind::For => 0,
         StatementKind::Load => statement.c,
         StatementKind::Call => 0,
@@ -84,15 +92,15 @@ pub fn field_of(statement: Statement) -> u8
 }
 
 // The region of the variable that a statement defines, given that of the variable it copies.
+#[tactic(auto, unfolding(model::specs::Statements::region_by))]
 fn variable_region(maps: &[u8], statement: Statement, copied: u8) -> u8
     ensures { (P : Plan) (s : ℕ) → P.maps ≡ maps.now → StatementAt P s statement → result ≡ region_by P (kind P s) s (λ d. copied) }
 {
-    let kind = statement.kind;
-    let target = map_target(maps, usize_of(statement.a));
-    match kind {
+    let target = map_target(maps, usize::from(statement.a)) as u8;
+    match statement.kind {
         StatementKind::For => statement.a,
-        StatementKind::Load => target as u8,
-        StatementKind::Call => target as u8,
+        StatementKind::Load => target,
+        StatementKind::Call => target,
         StatementKind::Copy => copied,
         StatementKind::Read => 0,
         StatementKind::Write => 0,
@@ -102,6 +110,7 @@ fn variable_region(maps: &[u8], statement: Statement, copied: u8) -> u8
 }
 
 // Whether the variable that a statement defines is centered, given whether the variable it copies is.
+#[tactic(auto, unfolding(model::specs::Statements::centered_by))]
 fn is_centered(kind: StatementKind, copied: bool) -> bool
     ensures { (P : Plan) (s : ℕ) → result ≡ centered_by P kind s (λ d. copied) }
 {
@@ -122,71 +131,51 @@ pub fn entry_of(
     maps: &[u8],
     statement: Statement,
     s: usize,
-    definitions: &[u8],
-    variable_regions: &[u8; 64],
-    centered: &[bool; 64],
+    variables: &Variables,
+    tables: &StatementTables,
 ) -> StatementEntry
     requires { s < 64 }
-    ensures { (P : Plan) → P.maps ≡ maps.now → StatementAt P s statement → EarlierStatements P s definitions.now variable_regions.now centered.now → EntryAt P s result }
+    ensures { (P : Plan) → P.maps ≡ maps.now → StatementAt P s statement → EarlierStatements P s variables.now tables.now → EntryAt P s result }
 {
-    let operand = byte_at(definitions, usize_of(operand_of(statement)));
-    let copied_region = earlier_byte(variable_regions, s, operand, 0) as u8;
-    let copied_centered = earlier_flag(centered, s, operand);
-    let region = variable_region(maps, statement, copied_region);
-    let kind = statement.kind;
-    let defines_centered = is_centered(kind, copied_centered);
+    let operand = variables.definition(operand_of(statement));
+    let followed = usize::from(operand);
+    let copied_region = earlier(&tables.variable_regions, s, followed).unwrap_or(0);
+    let copied_centered = earlier(&tables.centered, s, followed).unwrap_or(false);
     StatementEntry {
-        operand: operand as u8,
-        region,
-        centered: defines_centered,
+        operand,
+        region: variable_region(maps, statement, copied_region),
+        centered: is_centered(statement.kind, copied_centered),
     }
-}
-
-// Enters the variable that statement s defines among its loop's, and gives how many there are then: a FOR's own is the
-// first, a definition's the next. A seventeenth is not kept.
-pub fn enter_variable(definitions: &mut [u8; 16], count: usize, kind: StatementKind, s: u8) -> usize
-    requires { length definitions.old ≡ 16 }
-    ensures { (length definitions.new ≡ 16) × (variables_of result definitions.new ≡ variables_after kind s (variables_of count definitions.old)) }
-{
-    if opens_loop(kind) {
-        definitions[0] = s;
-        return 1;
-    }
-    if defines_variable(kind) & (count < 16) {
-        definitions[count] = s;
-        return count + 1;
-    }
-    count
 }
 
 // Whether a statement is of a known kind with all its numbers in range and its unused bytes 0.
+#[tactic(auto, using(primitives::proofs::OpenTests::tests_open), unfolding(model::specs::Statements::statement_formed, model::specs::Statements::statement_formed_by))]
 fn is_formed(regions: &[u8], maps: &[u8], statement: Statement, count: usize, region: usize) -> bool
     ensures { (P : Plan) (s : ℕ) → P.regions ≡ regions.now → P.maps ≡ maps.now → StatementAt P s statement → StatementContext P s count region → result ≡ statement_formed P s }
 {
-    let kind = statement.kind;
-    let a = statement.a as usize;
-    let b = statement.b as usize;
-    let c = statement.c as usize;
+    let a = usize::from(statement.a);
+    let b = usize::from(statement.b);
+    let c = usize::from(statement.c);
     let fields = byte_at(regions, region);
-    match kind {
-        StatementKind::For => (a < regions.len()) & ((b == 0) & (c == 0)),
-        StatementKind::Load => (a < maps.len() / 3) & ((b < count) & ((count < 16) & (c < fields))),
-        StatementKind::Call => (a < maps.len() / 3) & ((b < count) & ((count < 16) & (c == 0))),
-        StatementKind::Copy => (a < count) & ((count < 16) & ((b == 0) & (c == 0))),
-        StatementKind::Read => (a < count) & ((b < fields) & (c == 0)),
-        StatementKind::Write => (a < count) & ((b < fields) & (c == 0)),
-        StatementKind::Reduce => (a < count) & ((b < fields) & (c < 4)),
+    match statement.kind {
+        StatementKind::For => a < regions.len() && b == 0 && c == 0,
+        StatementKind::Load => a < maps.len() / 3 && b < count && count < 16 && c < fields,
+        StatementKind::Call => a < maps.len() / 3 && b < count && count < 16 && c == 0,
+        StatementKind::Copy => a < count && count < 16 && b == 0 && c == 0,
+        StatementKind::Read => a < count && b < fields && c == 0,
+        StatementKind::Write => a < count && b < fields && c == 0,
+        StatementKind::Reduce => a < count && b < fields && c < 4,
         StatementKind::Unknown => false,
     }
 }
 
 // Whether the map of a LOAD or CALL starts from the region of the variable that it follows.
+#[tactic(auto, using(primitives::proofs::OpenTests::tests_open), unfolding(model::specs::Statements::statement_agrees, model::specs::Statements::statement_agrees_by))]
 fn agrees_with_map(maps: &[u8], statement: Statement, region: usize) -> bool
     ensures { (P : Plan) (s : ℕ) → P.maps ≡ maps.now → StatementAt P s statement → region ≡ operand_region P s → result ≡ statement_agrees P s }
 {
-    let kind = statement.kind;
-    let source = map_source(maps, usize_of(statement.a));
-    match kind {
+    let source = map_source(maps, usize::from(statement.a));
+    match statement.kind {
         StatementKind::For => true,
         StatementKind::Load => region == source,
         StatementKind::Call => region == source,
@@ -199,6 +188,7 @@ fn agrees_with_map(maps: &[u8], statement: Statement, region: usize) -> bool
 }
 
 // The check of statement s, given the number of its loop's variables and the region of the one that it works on.
+#[tactic(auto, using(primitives::proofs::Stages::stages), unfolding(model::specs::Statements::statement_check))]
 pub fn check_statement(
     regions: &[u8],
     maps: &[u8],
@@ -206,15 +196,13 @@ pub fn check_statement(
     s: usize,
     count: usize,
     region: usize,
-) -> Outcome
+) -> Result<(), Refusal>
     requires { s < 64 }
     ensures { (P : Plan) → P.regions ≡ regions.now → P.maps ≡ maps.now → StatementAt P s statement → StatementContext P s count region → result ≡ statement_check P s }
 {
     let place = 4 * 256 + s;
     let formed = is_formed(regions, maps, statement, count, region);
     let agrees = agrees_with_map(maps, statement, region);
-    and_then(
-        require(formed, Refusal::InvalidRecord(place)),
-        require(agrees, Refusal::RegionMismatch(place)),
-    )
+    require(formed, Refusal::InvalidRecord(place))?;
+    require(agrees, Refusal::RegionMismatch(place))
 }

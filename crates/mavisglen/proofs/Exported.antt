@@ -4,6 +4,7 @@ use Prim.Native.Nat.{ℕ}
 use mathlib.Core.Path.{◌≡◌, sym, ap, ◌∙◌}
 use mathlib.Core.List.{List}
 use lib.ListN.{length}
+use Rattle.model.specs.Outcomes.{Answer, Written, Charged}
 use Rattle.model.specs.Bytes.{Bytes}
 use Rattle.model.specs.Verdict.{verdict}
 use Rattle.model.specs.Evaluation.{evaluation}
@@ -11,11 +12,8 @@ use Rattle.model.specs.Provenance.{explanation}
 use Rattle.model.specs.Transfers.{charge}
 use Rattle.model.specs.Packed.{Packing, packed_by, unpacked_by, answer_packing, packed, written_packing, charge_packing}
 use Rattle.model.specs.Promises.{CheckPromise, EvaluationPromise, ExplanationPromise, ChargePromise}
-use Rattle.model.specs.declared.Answer.{Answer}
 use Rattle.model.specs.declared.Question.{Question}
-use Rattle.model.specs.declared.Written.{Written}
 use Rattle.model.specs.declared.Transfer.{Transfer}
-use Rattle.model.specs.declared.Charge.{Charge}
 use Rattle.model.proofs.Answers.{report_injective, written_injective, charge_injective}
 use Rattle.model.proofs.Packed.{verdict_read, evaluation_read, explanation_read, charge_read_lem}
 use Rattle.mavisglen.specs.Exported.{Exported, ExportedCheck, ExportedEvaluation, ExportedExplanation, ExportedCharge}
@@ -50,6 +48,6 @@ exported_explanation result r e p d q oldNodes newNodes oldElements newElements 
     (explanation p d q (length oldNodes) (length oldElements)) e h.answer (explanation_read p d q (length oldNodes) (length oldElements)) h
 
 pub exported_charge :
-    (result : ℕ) (r : Charge) → result ≡ packed_by charge_packing r → (p d : Bytes) (t : Transfer) → ChargePromise p d t r → ExportedCharge p d t result
+    (result : ℕ) (r : Charged) → result ≡ packed_by charge_packing r → (p d : Bytes) (t : Transfer) → ChargePromise p d t r → ExportedCharge p d t result
 exported_charge result r e p d t h =
     exported charge_packing charge_injective (ChargePromise p d t) result r (charge p d t) e h.answer (charge_read_lem p d t) h

@@ -1,28 +1,27 @@
 // The entry points for C and Rust, which mavisglen_c exports: an answer comes as one number.
+// By `as`: there is no `From` between `usize` and `u64`, and `try_from` would have a case that never comes.
 #![tactic(auto)]
 
-ghost use Rattle.std.specs.Prelude.{◌≡◌};
-ghost use Rattle.model.specs.Packed.{tagged, pack as packedTag, refusal_tag, packed, packed_by, written_packing, charge_packing};
+ghost use Rattle.std.specs.Prelude.{◌≡◌, ℕ};
+ghost use Rattle.model.specs.Packed.{tagged, pack as packedTag, tag_by, acceptance_value, charge_value};
 ghost use Rattle.model.specs.Provenance.{asking};
 ghost use Rattle.model.specs.Transfers.{transferring};
 ghost use Rattle.mavisglen.specs.Exported.{ExportedCheck, ExportedEvaluation, ExportedExplanation, ExportedCharge};
 
-use model::{Answer, Charge, Refusal, Written};
+use model::{Acceptance, Charge, Refusal};
 
 // Checks a plan.
 pub fn mavisglen_check(plan: &[u8]) -> u64
     ensures { ExportedCheck plan.now result }
 {
-    let answer = plan::check(plan);
-    pack_answer(answer)
+    pack_answer(plan::check(plan))
 }
 
 // Evaluates a plan over a data set into the lent words.
 pub fn mavisglen_evaluate(plan: &[u8], data: &[u8], words: &mut [u64]) -> u64
     ensures { ExportedEvaluation plan.now «data».now words.old words.new result }
 {
-    let answer = evaluate::evaluate(plan, data, words);
-    pack_answer(answer)
+    pack_answer(evaluate::evaluate(plan, data, words))
 }
 
 // Explains why a piece of a node holds an element, by a chain of pairs in two lent slices.
@@ -37,70 +36,66 @@ pub fn mavisglen_explain(
 ) -> u64
     ensures { ExportedExplanation plan.now «data».now (asking node piece element) nodes.old nodes.new elements.old elements.new result }
 {
-    let answer = provenance::explain(plan, data, node, piece, element, nodes, elements);
-    pack_written(answer)
+    pack_answer(provenance::explain(plan, data, node, piece, element, nodes, elements))
 }
 
 // Charges for the elements of the accessed node's pieces that the owned node's lack.
 pub fn mavisglen_charge(plan: &[u8], data: &[u8], accessed: usize, owned: usize, price: u64) -> u64
     ensures { ExportedCharge plan.now «data».now (transferring accessed owned price) result }
 {
-    let answer = transfer::charge(plan, data, accessed, owned, price);
-    pack_charge(answer)
+    pack_answer(transfer::charge(plan, data, accessed, owned, price))
 }
 
-// An acceptance: number 0, and the counts in 8 bits each.
-fn pack_answer(answer: Answer) -> u64
-    ensures { result ≡ packed answer }
-{
-    match answer {
-        Answer::Accepted {
-            symbols,
-            nodes,
-            steps,
-        } => pack(0, symbols % 256 + (nodes % 256 << 8) + (steps % 256 << 16)),
-        Answer::Refused(refusal) => pack_refusal(refusal),
+// The value that stands for what is answered, in the bits above the number 0.
+trait Value {
+    ghost value_of: { Self → ℕ };
+
+    fn value(self) -> usize
+        ensures { result ≡ value_of self };
+}
+
+// The counts in 8 bits each.
+impl Value for Acceptance {
+    ghost value_of = { acceptance_value };
+
+    #[tactic(auto, unfolding(model::specs::Packed::acceptance_value))]
+    fn value(self) -> usize {
+        self.symbols % 256 + (self.nodes % 256 << 8) + (self.steps % 256 << 16)
     }
 }
 
-// What was written: number 0, and the length.
-fn pack_written(answer: Written) -> u64
-    ensures { result ≡ packed_by written_packing answer }
-{
-    match answer {
-        Written::Length(length) => pack(0, length),
-        Written::Refused(refusal) => pack_refusal(refusal),
+// The length of what was written.
+impl Value for usize {
+    ghost value_of = { λ length. length };
+
+    fn value(self) -> usize {
+        self
     }
 }
 
-// A charge: number 0, and the count in 16 bits, the cents in 24 and the remainder in 16.
-fn pack_charge(answer: Charge) -> u64
-    ensures { result ≡ packed_by charge_packing answer }
-{
-    match answer {
-        Charge::Charged {
-            count,
-            cents,
-            remainder,
-        } => pack(
-            0,
-            count % 65_536 + (cents % 16_777_216 << 16) + (remainder % 65_536 << 40),
-        ),
-        Charge::Refused(refusal) => pack_refusal(refusal),
+// The count in 16 bits, the cents in 24 and the remainder in 16.
+impl Value for Charge {
+    ghost value_of = { charge_value };
+
+    #[tactic(auto, unfolding(model::specs::Packed::charge_value))]
+    fn value(self) -> usize {
+        self.count % 65_536 + (self.cents % 16_777_216 << 16) + (self.remainder % 65_536 << 40)
     }
 }
 
-// A refusal: its number, and its place.
-fn pack_refusal(refusal: Refusal) -> u64
-    ensures { result ≡ packedTag (refusal_tag refusal) }
+// An answer: number 0 and the value, or the refusal's number and its place.
+#[tactic(auto, unfolding(model::specs::Packed::tag_by))]
+fn pack_answer<T: Value>(answer: Result<T, Refusal>) -> u64
+    ensures { result ≡ packedTag (tag_by T.value_of answer) }
 {
-    pack(
-        answers::refusal_number(refusal),
-        answers::refusal_place(refusal),
-    )
+    match answer {
+        Ok(answered) => pack(0, answered.value()),
+        Err(refusal) => pack(refusal.number(), refusal.place()),
+    }
 }
 
 // A number in the low 8 bits, and the value that goes with it above them.
+#[tactic(auto, unfolding(model::specs::Packed::pack))]
 fn pack(number: usize, value: usize) -> u64
     ensures { result ≡ packedTag (tagged number value) }
 {

@@ -1,4 +1,5 @@
 // The functions for C and Rust: each is the library's, with its promise.
+// A function beside each of mavisglen: the exported names (C interface).
 #![tactic(auto)]
 
 ghost use Rattle.model.specs.Provenance.{asking};

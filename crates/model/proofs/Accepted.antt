@@ -5,9 +5,10 @@ use mathlib.Core.Bool.{Bool}
 use native.Mathlib.Nat.{div-add-mod'}
 use native.Mathlib.Omega.{arith}
 use lib.ListN.{length, length-take, length-drop}
+use Rattle.std.specs.Prelude.{Ok}
 use Rattle.model.specs.Tests.{Is}
 use Rattle.model.specs.Bytes.{Bytes, byte, u16, boundary, body}
-use Rattle.model.specs.Outcomes.{require, ◌then◌, scan}
+use Rattle.model.specs.Outcomes.{require, ◌then◌, scan, Outcome}
 use Rattle.model.specs.Layout.{Plan, plan_of, shapes, shape_of, section_check, layout_check, node_count, step_count}
 use Rattle.model.specs.Statements.{statement_check}
 use Rattle.model.specs.Parallel.{loop_check}
@@ -17,29 +18,27 @@ use Rattle.model.specs.Lemmas.{step_check}
 use Rattle.model.specs.Declarations.{region_check, map_check, supplied_check}
 use Rattle.model.specs.Verdict.{records_check, plan_check, accepted, verdict}
 use Rattle.model.specs.AcceptedPlans.{Facts, Limits}
-use Rattle.model.specs.declared.Answer.TheVariants.{Accepted}
 use Rattle.model.specs.declared.Refusal.{Refusal}
-use Rattle.model.specs.declared.Outcome.{Outcome}
-use Rattle.model.specs.declared.Outcome.TheVariants.{Pass}
+use Rattle.model.specs.declared.Acceptance.{Acceptance}
 use Rattle.model.proofs.Tests.{both, pair, lacks, refuted, implied, implies, same, same!, less, less!, most, most!, some_of, among}
-use Rattle.model.proofs.Outcomes.{then_pass, passes_then, require_pass, required, scan_pass, passes_scan, conclude_accepted, conclude_pass}
+use Rattle.model.proofs.Outcomes.{then_pass, passes_then, require_pass, required, scan_pass, passes_scan, conclude_ok, conclude_pass}
 
 infixr 20 ◌next◌
-◌next◌ : {a b : Outcome} → a ≡ Pass → b ≡ Pass → a then b ≡ Pass
+◌next◌ : {a b : Outcome} → a ≡ Ok tt → b ≡ Ok tt → a then b ≡ Ok tt
 h next k = passes_then h k
 
 -- a scan whose checks begin with a test
 module _ {n : ℕ} (test : ℕ → Bool) (q : ℕ → Refusal) where
-  tested : scan (λ k. require (test k) (q k)) 0 n ≡ Pass → (k : ℕ) → k < n → Is (test k)
+  tested : scan (λ k. require (test k) (q k)) 0 n ≡ Ok tt → (k : ℕ) → k < n → Is (test k)
   tested h k lt = require_pass _ _ (scan_pass _ n h k lt)
 
   tested_then :
-      (rest : ℕ → Outcome) → scan (λ k. require (test k) (q k) then rest k) 0 n ≡ Pass → (k : ℕ) → k < n →
-      Is (test k) × (rest k ≡ Pass)
+      (rest : ℕ → Outcome) → scan (λ k. require (test k) (q k) then rest k) 0 n ≡ Ok tt → (k : ℕ) → k < n →
+      Is (test k) × (rest k ≡ Ok tt)
   tested_then rest h k lt = let r = then_pass _ _ (scan_pass _ n h k lt) in (require_pass _ _ r.0, r.1)
 
 module _ (P : Plan) where
-  pub facts : records_check P ≡ Pass → Facts P
+  pub facts : records_check P ≡ Ok tt → Facts P
   unfolding
       records_check region_check map_check supplied_check statement_check loop_check node_check duplicate_node assignment_count_check assignment_check
       step_check need_check
@@ -76,7 +75,7 @@ module _ (P : Plan) where
         access_met = λ s lt. implied (both (tested _ _ needs s lt)).1;
       }
 
-  pub facts_pass : Facts P → records_check P ≡ Pass
+  pub facts_pass : Facts P → records_check P ≡ Ok tt
   unfolding
       records_check region_check map_check supplied_check statement_check loop_check node_check duplicate_node assignment_count_check assignment_check
       step_check need_check
@@ -121,7 +120,7 @@ pub length-body : (s : Bytes) (n : ℕ) → boundary s (suc n) ≤ length s → 
 unfolding body boundary
 length-body s n h = simp (length-take, length-drop) (omega arith)
 
-pub section_pass : (p : Bytes) (n : ℕ) → section_check p n ≡ Pass → Section p n
+pub section_pass : (p : Bytes) (n : ℕ) → section_check p n ≡ Ok tt → Section p n
 unfolding section_check
 section_pass p n h =
     let (ends, h) = then_pass _ _ h in
@@ -140,7 +139,7 @@ section_pass p n h =
     whole : (a b : ℕ) → a % b ≡ 0 → a ≡ a / b * b
     whole a b z = omega (arith, div-add-mod' a b)
 
-pub laid_out_lem : (p : Bytes) → layout_check p ≡ Pass → LaidOut p
+pub laid_out_lem : (p : Bytes) → layout_check p ≡ Ok tt → LaidOut p
 unfolding layout_check
 laid_out_lem p h =
     let (some, h) = then_pass _ _ h in
@@ -153,7 +152,7 @@ laid_out_lem p h =
       nothing_after = omega (arith, (section 6 (omega arith)).ends_inside, most (require_pass _ _ end));
     }
 
-pub layout_pass : (p : Bytes) → LaidOut p → layout_check p ≡ Pass
+pub layout_pass : (p : Bytes) → LaidOut p → layout_check p ≡ Ok tt
 unfolding layout_check section_check boundary
 layout_pass p L =
     required _ _ (most! (omega (arith, (L.section 0 (omega arith)).starts_inside)))
@@ -193,26 +192,26 @@ pub record AcceptedPlan (p : Bytes) : Type 0 where
   pub layout : LaidOut p
   pub records : Facts (plan_of p)
 
-pub plan_accepted : (p : Bytes) → plan_check p ≡ Pass → AcceptedPlan p
+pub plan_accepted : (p : Bytes) → plan_check p ≡ Ok tt → AcceptedPlan p
 unfolding plan_check
 plan_accepted p h = let r = then_pass _ _ h in record { layout = laid_out_lem p r.0; records = facts (plan_of p) r.1 }
 
-pub plan_pass : (p : Bytes) → AcceptedPlan p → plan_check p ≡ Pass
+pub plan_pass : (p : Bytes) → AcceptedPlan p → plan_check p ≡ Ok tt
 unfolding plan_check
 plan_pass p A = layout_pass p A.layout next facts_pass (plan_of p) A.records
 
 -- the counts of an acceptance
-pub record Counted (P : Plan) (symbols nodes steps : ℕ) : Type 0 where
-  pub symbols_counted : symbols ≡ symbol_count P
-  pub nodes_counted : nodes ≡ node_count P
-  pub steps_counted : steps ≡ step_count P
+pub record Counted (P : Plan) (a : Acceptance) : Type 0 where
+  pub symbols_counted : a.symbols ≡ symbol_count P
+  pub nodes_counted : a.nodes ≡ node_count P
+  pub steps_counted : a.steps ≡ step_count P
 
-pub verdict_accepted : (p : Bytes) (a b c : ℕ) → verdict p ≡ Accepted a b c → AcceptedPlan p × Counted (plan_of p) a b c
+pub verdict_accepted : (p : Bytes) (a : Acceptance) → verdict p ≡ Ok a → AcceptedPlan p × Counted (plan_of p) a
 unfolding verdict
-verdict_accepted p a b c h =
-    let r = conclude_accepted _ _ a b c h in
+verdict_accepted p a h =
+    let r = conclude_ok _ _ a h in
     (plan_accepted p r.0, record { symbols_counted = cc; nodes_counted = cc; steps_counted = cc })
 
-pub accepted-verdict : (p : Bytes) → AcceptedPlan p → verdict p ≡ accepted (plan_of p)
+pub accepted-verdict : (p : Bytes) → AcceptedPlan p → verdict p ≡ Ok (accepted (plan_of p))
 unfolding verdict
 accepted-verdict p A = conclude_pass _ _ (plan_pass p A)

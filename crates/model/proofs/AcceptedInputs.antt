@@ -5,6 +5,7 @@ use mathlib.Core.Path.{◌≡◌}
 use mathlib.Core.Logic.{◌↔◌}
 use native.Mathlib.Nat.{mul-le-mul}
 use native.Mathlib.Omega.{arith}
+use Rattle.std.specs.Prelude.{Ok}
 use Rattle.model.specs.Bytes.{Bytes}
 use Rattle.model.specs.Layout.{plan_of}
 use Rattle.model.specs.Verdict.{verdict}
@@ -13,8 +14,7 @@ use Rattle.model.specs.DataSets.{data_of, data_check}
 use Rattle.model.specs.Evaluation.{MOST_WORDS, words_needed, inputs_check}
 use Rattle.model.specs.PlainPlan.{WellFormed, Parallelizable, Licensed, Concluded}
 use Rattle.model.specs.PlainData.{Fits}
-use Rattle.model.specs.declared.Outcome.TheVariants.{Pass}
-use Rattle.model.proofs.Outcomes.{then_pass, passes_then, conclude_accepted, conclude_pass}
+use Rattle.model.proofs.Outcomes.{then_pass, passes_then, conclude_ok, conclude_pass}
 use Rattle.model.proofs.Accepted.{limits, plan_accepted}
 use Rattle.model.proofs.Fitting.{fit}
 use Rattle.model.proofs.DataAgrees.{data_fits}
@@ -24,10 +24,10 @@ use Rattle.model.proofs.Demand2.{demand_2}
 pub record AcceptedInputs (p d : Bytes) : Type 0 where
   pub facts : Facts (plan_of p)
   pub limits : Limits (plan_of p)
-  pub fits : data_check (plan_of p) d ≡ Pass
+  pub fits : data_check (plan_of p) d ≡ Ok tt
 
 module _ (p d : Bytes) where
-  pub inputs_accepted : inputs_check p d ≡ Pass → AcceptedInputs p d
+  pub inputs_accepted : inputs_check p d ≡ Ok tt → AcceptedInputs p d
   unfolding inputs_check
   inputs_accepted h =
       let (plan_passes, data_passes) = then_pass _ _ h in
@@ -36,17 +36,17 @@ module _ (p d : Bytes) where
 
   -- plan and data set pass exactly when the plain statements about them hold
   pub inputs_exactly :
-      (inputs_check p d ≡ Pass) ↔ (WellFormed p × Parallelizable p × Licensed p × Concluded p × Fits (plan_of p) d)
+      (inputs_check p d ≡ Ok tt) ↔ (WellFormed p × Parallelizable p × Licensed p × Concluded p × Fits (plan_of p) d)
   unfolding verdict inputs_check
   inputs_exactly = (
     λ h.
         let (plan_passes, data_passes) = then_pass _ _ h in
-        let (formed, loops, steps, needs) = (demand_2 p).0 (_, _, _, conclude_pass _ _ plan_passes) in
+        let (formed, loops, steps, needs) = (demand_2 p).0 (_, conclude_pass _ _ plan_passes) in
         (formed, loops, steps, needs, (data_fits (plan_of p) d).0 data_passes),
     λ w.
         let (formed, loops, steps, needs, fits) = w in
-        let (s, n, t, h) = (demand_2 p).1 (formed, loops, steps, needs) in
-        passes_then (conclude_accepted _ _ s n t h).0 ((data_fits (plan_of p) d).1 fits),
+        let (a, h) = (demand_2 p).1 (formed, loops, steps, needs) in
+        passes_then (conclude_ok _ _ a h).0 ((data_fits (plan_of p) d).1 fits),
   )
 
   -- at most 48 nodes of at most 16 pieces

@@ -1,9 +1,11 @@
 -- Charging keeps its whole promise where its answer is the defined one. Assumes nothing.
-use Prim.Native.Nat.{ℕ, ◌*◌, ◌/◌, ◌%◌, ◌≤◌, ◌<◌}
+use Prim.Native.Nat.{ℕ, ◌*◌, ◌≤◌, ◌<◌}
 use mathlib.Core.Path.{◌≡◌, refl, sym, ap, ◌∙◌}
 use mathlib.Core.Logic.{◌⊎◌, inl, inr, ◌↔◌}
 use native.Mathlib.Nat.{div-add-mod', mod-lt}
 use native.Mathlib.Omega.{arith}
+use Rattle.std.specs.Prelude.{Ok, Err}
+use Rattle.model.specs.Outcomes.{Charged}
 use Rattle.model.specs.Tests.{Is, ◌and◌, ◌=?◌, ◌<?◌}
 use Rattle.model.specs.Answers.{refusal_report, charge_report}
 use Rattle.model.specs.Bytes.{Bytes}
@@ -21,11 +23,9 @@ use Rattle.model.specs.GivenWhen.{TransferGivenWhen, no_node, regions_differ, pr
 use Rattle.model.specs.RefusalOrder.{turns, turn, Earlier, by_stage, by_item, by_check}
 use Rattle.model.specs.Promises.{ChargeMeans, ChargePromise}
 use Rattle.model.specs.declared.Refusal.{Refusal}
-use Rattle.model.specs.declared.Outcome.TheVariants.{Pass, Refuse}
 use Rattle.model.specs.declared.Charge.{Charge}
-use Rattle.model.specs.declared.Charge.TheVariants.{Charged, Refused}
 use Rattle.model.proofs.Tests.{both, pair, lacks, less, less!, most, most!, same, same! }
-use Rattle.model.proofs.Outcomes.{then_pass, passes_then, then_cases, require_pass, required, require_refuse, charging_charged, charging_refused, charging_pass}
+use Rattle.model.proofs.Outcomes.{then_pass, passes_then, then_cases, require_pass, required, require_refuse, conclude_ok, conclude_refused, conclude_pass}
 use Rattle.model.proofs.Turns.{turn_of, not_itself, ClearUpTo, clear_test, clear_both}
 use Rattle.model.proofs.Fitting.{Fit, fit}
 use Rattle.model.proofs.DataAgrees.{data_refuses}
@@ -57,7 +57,7 @@ module _ {p d : Bytes} (inputs : AcceptedInputs p d) (t : Transfer) where
     λ w. same! (w _ _ (region_of _ nodes.accessed_exists) (region_of _ nodes.owned_exists)),
   )
 
-  chargeable : (transfer_check P t ≡ Pass) ↔ Chargeable P t
+  chargeable : (transfer_check P t ≡ Ok tt) ↔ Chargeable P t
   unfolding transfer_check
   chargeable = (
     λ h.
@@ -75,7 +75,7 @@ module _ {p d : Bytes} (inputs : AcceptedInputs p d) (t : Transfer) where
   )
 
   -- 17 holds as the table says
-  transfer_refuses : (r : Refusal) → transfer_check P t ≡ Refuse r → TransferGivenWhen P t (refusal_report r).number (refusal_report r).place
+  transfer_refuses : (r : Refusal) → transfer_check P t ≡ Err r → TransferGivenWhen P t (refusal_report r).number (refusal_report r).place
   unfolding transfer_check
   transfer_refuses r h =
       then_cases _ _ r h
@@ -113,7 +113,7 @@ module _ {p d : Bytes} (inputs : AcceptedInputs p d) (t : Transfer) where
 -- what charging answers
 module _ (p d : Bytes) (t : Transfer) where
   -- T2b
-  charge_refuses : (r : Refusal) → charge_check p d t ≡ Refuse r → ChargeGivenWhen p d t (refusal_report r).number (refusal_report r).place
+  charge_refuses : (r : Refusal) → charge_check p d t ≡ Err r → ChargeGivenWhen p d t (refusal_report r).number (refusal_report r).place
   unfolding charge_check inputs_check
   charge_refuses r h =
       then_cases _ _ r h
@@ -122,7 +122,7 @@ module _ (p d : Bytes) (t : Transfer) where
 
   -- "The first met is given"
   charge_first :
-      (r : Refusal) → charge_check p d t ≡ Refuse r → (n place : ℕ) → Earlier (turn n place) (turn_of r) → ChargeGivenWhen p d t n place → ⊥
+      (r : Refusal) → charge_check p d t ≡ Err r → (n place : ℕ) → Earlier (turn n place) (turn_of r) → ChargeGivenWhen p d t n place → ⊥
   unfolding charge_check turn turns
   charge_first r h n place e w = go (clear_before _ r h e) w
     where
@@ -141,7 +141,7 @@ module _ (p d : Bytes) (t : Transfer) where
 
   -- a charge is made exactly when the plain statements hold
   passes_exactly :
-      (charge_check p d t ≡ Pass) ↔
+      (charge_check p d t ≡ Ok tt) ↔
       (WellFormed p × Parallelizable p × Licensed p × Concluded p × Fits (plan_of p) d × Chargeable (plan_of p) t)
   unfolding charge_check
   passes_exactly = (
@@ -156,7 +156,7 @@ module _ (p d : Bytes) (t : Transfer) where
   )
 
   -- the three numbers, once all checks passed
-  module _ (passed : charge_check p d t ≡ Pass) where
+  module _ (passed : charge_check p d t ≡ Ok tt) where
     inputs : AcceptedInputs p d
     unfolding charge_check
     inputs = inputs_accepted p d (then_pass _ _ passed).0
@@ -171,7 +171,8 @@ module _ (p d : Bytes) (t : Transfer) where
     pub charge_few : (transfer_count (plan_of p) (data_of d) t ≤ 8192) × (t.price ≤ 1000000)
     charge_few = (fetched_few (plan_of p) (data_of d) inputs.facts fitted t may.both_exist, may.price_listed)
 
-    charge_means : (n : ℕ) → n ≡ transfer_count (plan_of p) (data_of d) t → ChargeMeans p d t n (n * t.price / 1000) (n * t.price % 1000)
+    charge_means : (n : ℕ) → n ≡ transfer_count (plan_of p) (data_of d) t → ChargeMeans p d t (priced n t.price)
+    unfolding priced
     charge_means n is =
         let F = inputs.facts in
         let nodes = may.both_exist in
@@ -191,19 +192,15 @@ module _ (p d : Bytes) (t : Transfer) where
         listed nodes (inr is) = rw is nodes.owned_exists
 
   -- an answer that is the definition's
-  module _ (r : Charge) (answers : r ≡ charge p d t) where
-    charges : (n cents remainder : ℕ) → r ≡ Charged n cents remainder → ChargeMeans p d t n cents remainder
-    unfolding charge priced
-    charges n cents remainder is =
-        let (passed, told) = charging_charged _ _ _ _ _ (sym answers ∙ is) in
-        let count : n ≡ transfer_count (plan_of p) (data_of d) t = cc in
-        let whole : cents ≡ n * t.price / 1000 = cc in
-        let rest : remainder ≡ n * t.price % 1000 = cc in
-        rw (whole, rest) (charge_means passed n count)
+  module _ (r : Charged) (answers : r ≡ charge p d t) where
+    charges : (c : Charge) → r ≡ Ok c → ChargeMeans p d t c
+    unfolding charge
+    charges c is =
+        let (passed, told) = conclude_ok _ _ _ (sym answers ∙ is) in rw (← told) (charge_means passed _ refl)
 
-    refuses : (s : Refusal) → r ≡ Refused s → charge_check p d t ≡ Refuse s
-    unfolding charge priced
-    refuses s is = charging_refused _ _ _ _ s (sym answers ∙ is)
+    refuses : (s : Refusal) → r ≡ Err s → charge_check p d t ≡ Err s
+    unfolding charge
+    refuses s is = conclude_refused _ _ s (sym answers ∙ is)
 
     pub charge_promise : ChargePromise p d t r
     unfolding charge_report charge priced
@@ -211,8 +208,8 @@ module _ (p d : Bytes) (t : Transfer) where
         record {
           answer = ap charge_report answers;
           exactly = (
-            λ w. let (n, cents, remainder, is) = w in passes_exactly.0 (charging_charged _ _ _ _ _ (sym answers ∙ is)).0,
-            λ w. (_, _, _, answers ∙ charging_pass _ _ (passes_exactly.1 w)),
+            λ w. passes_exactly.0 (conclude_ok _ _ _ (sym answers ∙ w.1)).0,
+            λ w. (_, answers ∙ conclude_pass _ _ (passes_exactly.1 w)),
           );
           refused = λ s is. rw is (charge_refuses s (refuses s is));
           first = λ s is. rw is (charge_first s (refuses s is));

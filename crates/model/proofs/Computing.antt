@@ -1,7 +1,7 @@
 -- The definitions of a verdict and of an evaluation, for proofs by computation: `unfolding definitions` opens them all. Assumes nothing.
 use Rattle.model.specs.Tests.{◌and◌, ◌or◌, non, ◌=?◌, ◌<?◌, ◌≤?◌, any, every, pick, first}
 use Rattle.model.specs.Answers.{report, written_report, charge_report}
-use Rattle.model.specs.Outcomes.{require, ◌then◌, scan, conclude, conclude_writing, conclude_charge}
+use Rattle.model.specs.Outcomes.{require, ◌then◌, scan, conclude}
 use Rattle.model.specs.Bytes.{boundary, body}
 use Rattle.model.specs.Recursion.{below, levels, course}
 use Rattle.model.specs.Partitions.{union, intersection, difference, image, preimage, contiguous, equal_start}
@@ -37,6 +37,6 @@ unfolding
     entry_fits entries_check supplied_disjoint supplied_complete pad_bits_clear declarations_hold well_framed data_check
     inputs_check evaluation_check evaluation node_word filled_words bit holds from_bits word store
     ends_by least_source least_target next_by next_pair pair_at chain_length chain_pair pairs_needed question_check chain_room_check explanation_check explanation
-    conclude_writing written_report list_after
-    count sum ones without ones_lacking fetched transfer_count transfer_ones transfer_check priced charge_check charge conclude_charge charge_report
+    written_report list_after
+    count sum ones without ones_lacking fetched transfer_count transfer_ones transfer_check priced charge_check charge charge_report
 definitions = tt

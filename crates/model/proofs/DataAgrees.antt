@@ -3,9 +3,10 @@ use Prim.Native.Nat.{ℕ, ◌+◌, ◌-◌, ◌*◌, ◌≤◌, ◌<◌}
 use mathlib.Core.Path.{◌≡◌, refl, sym, ◌∙◌}
 use mathlib.Core.Logic.{◌⊎◌, inl, inr, ◌↔◌}
 use native.Mathlib.Omega.{arith}
+use Rattle.std.specs.Prelude.{Ok, Err}
 use Rattle.model.specs.Tests.{Is, ◌and◌, non, pick, ◌=?◌, ◌<?◌, ◌≤?◌}
 use Rattle.model.specs.Bytes.{Bytes}
-use Rattle.model.specs.Outcomes.{require, scan}
+use Rattle.model.specs.Outcomes.{require, scan, Outcome}
 use Rattle.model.specs.Partitions.{PairwiseDisjoint, Covering}
 use Rattle.model.specs.Layout.{Plan, map_count, supplied_count, source, target, totality, supplied_region}
 use Rattle.model.specs.DataSets.{DataSet, data_of, NONE, pieces, size, entry, low, past, maps_to, entry_fits, entries_check, piece_bytes, supplied_bit, supplied, supplied_disjoint, supplied_complete, pad_bits_clear, declarations_hold, well_framed, data_check}
@@ -14,8 +15,6 @@ use Rattle.model.specs.Answers.{refusal_report}
 use Rattle.model.specs.GivenWhen.{DataGivenWhen, invalid_data, invalid_entry, invalid_partition}
 use Rattle.model.specs.declared.Refusal.{Refusal}
 use Rattle.model.specs.declared.Refusal.TheVariants.{InvalidPartition}
-use Rattle.model.specs.declared.Outcome.{Outcome}
-use Rattle.model.specs.declared.Outcome.TheVariants.{Pass, Refuse}
 use Rattle.model.proofs.Tests.{lacks, refuted, both, pair, implied, implies, same, same!, less, less!, most, most!, which, which!, some_of, among, every_at, every_of, pick_true, pick-false, fails, split}
 use Rattle.model.proofs.Outcomes.{then_pass, passes_then, then_cases, require_pass, required, require_refuse, scan_pass, passes_scan, scan_refuse}
 use Rattle.model.proofs.Accepted.{begins_inside}
@@ -159,29 +158,29 @@ abbrev partitions_checked : Plan → Bytes → Outcome
 partitions_checked P d = scan (λ k. require (declarations_hold P (data_of d) k) (InvalidPartition k)) 0 (supplied_count P)
 
 -- a data set draws none of 12 to 14 exactly where it fits; which of entries and partitions comes first does not matter here
-fits_plainly : (P : Plan) (d : Bytes) → data_check P d ≡ Pass → Fits P d
+fits_plainly : (P : Plan) (d : Bytes) → data_check P d ≡ Ok tt → Fits P d
 unfolding data_check entries_check
 fits_plainly P d h =
     let (framed, h) = then_pass _ _ h in
     let (earlier, later) = then_pass _ _ h in
-    let entries : entries_checked P d ≡ Pass = search in
-    let partitions : partitions_checked P d ≡ Pass = search in
+    let entries : entries_checked P d ≡ Ok tt = search in
+    let partitions : partitions_checked P d ≡ Ok tt = search in
     record {
       frame = (frame_fits P d).0 (require_pass _ _ framed);
       entries = λ m k lm lk. (entry_fits_lem P (data_of d) m k).0 (require_pass _ _ (scan_pass _ _ (scan_pass _ _ entries m lm) k lk));
       supplied = λ k lk. (supplied_right P (data_of d) k).0 (require_pass _ _ (scan_pass _ _ partitions k lk));
     }
 
-passes_data : (P : Plan) (d : Bytes) → Fits P d → data_check P d ≡ Pass
+passes_data : (P : Plan) (d : Bytes) → Fits P d → data_check P d ≡ Ok tt
 unfolding data_check entries_check
 passes_data P d f =
-    let entries : entries_checked P d ≡ Pass =
+    let entries : entries_checked P d ≡ Ok tt =
     passes_scan _ _ (λ m lm. passes_scan _ _ (λ k lk. required _ _ ((entry_fits_lem P (data_of d) m k).1 (f.entries m k lm lk)))) in
-    let partitions : partitions_checked P d ≡ Pass =
+    let partitions : partitions_checked P d ≡ Ok tt =
     passes_scan _ _ (λ k lk. required _ _ ((supplied_right P (data_of d) k).1 (f.supplied k lk))) in
     passes_then (required _ _ ((frame_fits P d).1 f.frame)) (passes_then (search) (search))
 
-pub data_fits : (P : Plan) (d : Bytes) → (data_check P d ≡ Pass) ↔ Fits P d
+pub data_fits : (P : Plan) (d : Bytes) → (data_check P d ≡ Ok tt) ↔ Fits P d
 data_fits P d = (fits_plainly P d, passes_data P d)
 
 -- where a data set is refused, the table's "given when" holds at the place
@@ -189,7 +188,7 @@ module _ (P : Plan) (d : Bytes) (r : Refusal) where
   abbrev pub DataGiven : Type 0
   DataGiven = DataGivenWhen P d (refusal_report r).number (refusal_report r).place
 
-  entries_refuse : entries_checked P d ≡ Refuse r → DataGiven
+  entries_refuse : entries_checked P d ≡ Err r → DataGiven
   unfolding entries_check
   entries_refuse e =
       let w = scan_refuse _ _ r e in
@@ -198,13 +197,13 @@ module _ (P : Plan) (d : Bytes) (r : Refusal) where
       rw (← f.1) (invalid_entry {m = w.at} {k = v.at} refl (omega arith) (omega (arith, w.inside)) (omega (arith, v.inside)) (λ s.
       lacks f.0 ((entry_fits_lem P (data_of d) w.at v.at).1 s)))
 
-  partitions_refuse : partitions_checked P d ≡ Refuse r → DataGiven
+  partitions_refuse : partitions_checked P d ≡ Err r → DataGiven
   partitions_refuse e =
       let w = scan_refuse _ _ r e in
       let f = require_refuse _ _ r w.refuses in
       rw (← f.1) (invalid_partition refl (omega (arith, w.inside)) (λ s. lacks f.0 ((supplied_right P (data_of d) w.at).1 s)))
 
-  pub data_refuses : data_check P d ≡ Refuse r → DataGiven
+  pub data_refuses : data_check P d ≡ Err r → DataGiven
   unfolding data_check
   data_refuses h =
       then_cases _ _ r h

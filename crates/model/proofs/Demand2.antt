@@ -1,9 +1,11 @@
 -- T2: the verdict accepts exactly the plans that read by the layout, whose loops are parallelizable, whose steps are licensed and whose needs
 -- are concluded; and the whole promise of checking. Assumes nothing.
-use Prim.Native.Nat.{ℕ, ◌/◌}
+use Prim.Native.Nat.{◌/◌}
 use mathlib.Core.Path.{◌≡◌, sym, ap, ◌∙◌}
 use mathlib.Core.Logic.{◌↔◌}
 use lib.ListN.{length}
+use Rattle.std.specs.Prelude.{Ok, Err}
+use Rattle.model.specs.Outcomes.{Answer}
 use Rattle.model.specs.Bytes.{Bytes, body}
 use Rattle.model.specs.Layout.{plan_of, statement_count}
 use Rattle.model.specs.Verdict.{records_check, plan_check, verdict}
@@ -12,10 +14,8 @@ use Rattle.model.specs.PlainPlan.{WellFormed, Parallelizable, Licensed, Conclude
 use Rattle.model.specs.Answers.{report}
 use Rattle.model.specs.Promises.{Accepts, CheckPromise}
 use Rattle.model.specs.declared.Refusal.{Refusal}
-use Rattle.model.specs.declared.Outcome.TheVariants.{Pass, Refuse}
-use Rattle.model.specs.declared.Answer.{Answer}
-use Rattle.model.specs.declared.Answer.TheVariants.{Accepted, Refused}
-use Rattle.model.proofs.Outcomes.{scan_agrees, then_pass, passes_then, conclude_accepted, conclude_refused, conclude_pass}
+use Rattle.model.specs.declared.Acceptance.{Acceptance}
+use Rattle.model.proofs.Outcomes.{scan_agrees, then_pass, passes_then, conclude_ok, conclude_refused, conclude_pass}
 use Rattle.model.proofs.Accepted.{verdict_accepted}
 use Rattle.model.proofs.LayoutAgrees.{layout_read, well_formed_layout, region_formed, map_formed, supplied_formed}
 use Rattle.model.proofs.RecordsAgree.{NodesRead, nodes_plainly, passes_nodes, steps_plainly, passes_steps}
@@ -29,7 +29,7 @@ module _ (p : Bytes) where
   abbrev Plainly : Type 0
   Plainly = WellFormed p × Parallelizable p × Licensed p × Concluded p
 
-  accepted_plainly : plan_check p ≡ Pass → Plainly
+  accepted_plainly : plan_check p ≡ Ok tt → Plainly
   unfolding plan_check records_check
   accepted_plainly h =
       let (layout, h) = then_pass _ _ h in
@@ -68,7 +68,7 @@ module _ (p : Bytes) where
         (needs_pass (plan_of p) S N A T.formed).0 needs,
       )
 
-  plainly_accepted : Plainly → plan_check p ≡ Pass
+  plainly_accepted : Plainly → plan_check p ≡ Ok tt
   unfolding plan_check records_check
   plainly_accepted (R, loops, licensed, needs) =
       let N : NodesRead (plan_of p) = record { each = R.nodes; differ = R.nodes_differ } in
@@ -88,25 +88,25 @@ module _ (p : Bytes) where
   pub demand_2 : Accepts (verdict p) ↔ (WellFormed p × Parallelizable p × Licensed p × Concluded p)
   unfolding verdict
   demand_2 =
-      (λ a. accepted_plainly (conclude_accepted _ _ _ _ _ a.3).0, λ w. (_, _, _, conclude_pass _ _ (plainly_accepted w)))
+      (λ a. accepted_plainly (conclude_ok _ _ _ a.1).0, λ w. (_, conclude_pass _ _ (plainly_accepted w)))
 
   -- the counts of an acceptance are the numbers of symbols and of records
   pub counts :
-      (symbols nodes steps : ℕ) → verdict p ≡ Accepted symbols nodes steps →
-      SymbolsBefore (plan_of p) (statement_count (plan_of p)) symbols × (nodes ≡ length (body p 4) / 4) × (steps ≡ length (body p 6) / 5)
-  counts a b c h =
-      let C = (verdict_accepted p a b c h).1 in
+      (a : Acceptance) → verdict p ≡ Ok a →
+      SymbolsBefore (plan_of p) (statement_count (plan_of p)) a.symbols × (a.nodes ≡ length (body p 4) / 4) × (a.steps ≡ length (body p 6) / 5)
+  counts a h =
+      let C = (verdict_accepted p a h).1 in
       (rw C.symbols_counted (symbols_before (plan_of p) (statement_count (plan_of p))), C.nodes_counted, C.steps_counted)
 
 -- checking keeps its whole promise where its answer is the verdict
 pub check_promise : (p : Bytes) (r : Answer) → r ≡ verdict p → CheckPromise p r
 unfolding verdict report
 check_promise p r e =
-    let refuses : (q : Refusal) → r ≡ Refused q → plan_check p ≡ Refuse q = λ q h. conclude_refused _ _ _ _ q (sym e ∙ h) in
+    let refuses : (q : Refusal) → r ≡ Err q → plan_check p ≡ Err q = λ q h. conclude_refused _ _ q (sym e ∙ h) in
     record {
       answer = ap report e;
       exactly = rw e (demand_2 p);
-      counts = λ a b c h. counts p a b c (sym e ∙ h);
+      counts = λ a h. counts p a (sym e ∙ h);
       refused = λ q h. rw h (plan_refuses p q (refuses q h));
       first = λ q h. rw h (plan_first p q (refuses q h));
       undisturbed = λ a d fits. undisturbed p d ((demand_2 p).0 (rw e at a)).1;

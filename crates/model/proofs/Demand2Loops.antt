@@ -6,6 +6,7 @@ use mathlib.Core.Logic.Iff
 use mathlib.Core.Logic.{inl, inr, ◌↔◌}
 use mathlib.Core.Bool.{Bool}
 use native.Mathlib.Omega.{arith}
+use Rattle.std.specs.Prelude.{Ok, Err}
 use Rattle.model.specs.Tests.{Is, non, ◌or◌, ◌<?◌, ◌=?◌}
 use Rattle.model.specs.Bytes.{Bytes}
 use Rattle.model.specs.Outcomes.{require, ◌then◌}
@@ -20,7 +21,6 @@ use Rattle.model.specs.GivenWhen.{RecordInvalid, RegionsDisagree, invalid_record
 use Rattle.model.specs.Verdict.{statements_check, loops_check, assignments_check, needs_check}
 use Rattle.model.specs.declared.Refusal.{Refusal}
 use Rattle.model.specs.declared.Refusal.TheVariants.{NotParallelizable}
-use Rattle.model.specs.declared.Outcome.TheVariants.{Pass, Refuse}
 use Rattle.model.proofs.Tests.{pair, one, lacks, split, implied, implies, same, same!, less, less! }
 use Rattle.model.proofs.Outcomes.{scan_agrees, then_pass, passes_then, then_cases, require_pass, required, require_refuse, scan_pass, passes_scan, scan_refuse}
 use Rattle.model.proofs.NodesAgree.{region_is, node_region_lem, operand_earlier}
@@ -35,10 +35,10 @@ use Rattle.model.proofs.SymbolsAgree.{has_symbol_lem, symbol_is, symbols_before,
 use Rattle.model.proofs.NeedsAgree.{ConclusionsAgree, needs_met, needs_concluded}
 
 -- one test, and two, that must pass
-passes_one : (a : Bool) (q : Refusal) → (require a q ≡ Pass) ↔ Is a
+passes_one : (a : Bool) (q : Refusal) → (require a q ≡ Ok tt) ↔ Is a
 passes_one a q = (require_pass a q, required a q)
 
-passes_two : (a b : Bool) (q r : Refusal) → (require a q then require b r ≡ Pass) ↔ (Is a × Is b)
+passes_two : (a b : Bool) (q r : Refusal) → (require a q then require b r ≡ Ok tt) ↔ (Is a × Is b)
 passes_two a b q r = (
   λ h. let t = then_pass _ _ h in (require_pass _ _ t.0, require_pass _ _ t.1),
   λ w. passes_then (required _ _ w.0) (required _ _ w.1),
@@ -50,22 +50,22 @@ not_implied {a} h =
     elim (split a) [ inl y ↦ (y, λ k. lacks h (one (inr k))) | inr n ↦ absurd (lacks h (one (inl n))) ]
 
 module _ (P : Plan) where
-  pub statement_passes : (s : ℕ) → (statement_check P s ≡ Pass) ↔ (Is (statement_formed P s) × Is (statement_agrees P s))
+  pub statement_passes : (s : ℕ) → (statement_check P s ≡ Ok tt) ↔ (Is (statement_formed P s) × Is (statement_agrees P s))
   unfolding statement_check
   statement_passes s = passes_two _ _ _ _
 
-  loop_passes : (f : ℕ) → (loop_check P f ≡ Pass) ↔ Is (non (opens P f) or parallelizable P f)
+  loop_passes : (f : ℕ) → (loop_check P f ≡ Ok tt) ↔ Is (non (opens P f) or parallelizable P f)
   unfolding loop_check
   loop_passes f = passes_one _ _
 
   assignment_passes :
-      (s : ℕ) → (assignment_check P s ≡ Pass) ↔
+      (s : ℕ) → (assignment_check P s ≡ Ok tt) ↔
       (Is (non (has_symbol P s) or symbol_node P s <? node_count P)
       × Is (non (has_symbol P s) or node_region P (symbol_node P s) =? symbol_region P s))
   unfolding assignment_check
   assignment_passes s = passes_two _ _ _ _
 
-  need_passes : (s : ℕ) → (need_check P s ≡ Pass) ↔ Is (needs_met P s)
+  need_passes : (s : ℕ) → (need_check P s ≡ Ok tt) ↔ Is (needs_met P s)
   unfolding need_check
   need_passes s = passes_one _ _
 
@@ -76,17 +76,17 @@ module _ (P : Plan) where
   pub all_formed : StatementsRead → FormedBefore P (statement_count P)
   all_formed R s lt = formed_computed P (R s lt).0
 
-  pub statements_pass : (statements_check P ≡ Pass) ↔ StatementsRead
+  pub statements_pass : (statements_check P ≡ Ok tt) ↔ StatementsRead
   statements_pass = (plainly, tested)
     where
-      plainly : statements_check P ≡ Pass → StatementsRead
+      plainly : statements_check P ≡ Ok tt → StatementsRead
       plainly h s lt =
           let F : FormedBefore P (statement_count P) = λ t l. ((statement_passes t).0 (scan_pass _ _ h t l)).0 in (
             (statement_formed_lem P s (λ t l. F t (omega arith))).0 (F s lt),
             (statement_agrees_lem P s (λ t l. F t (omega arith))).0 ((statement_passes s).0 (scan_pass _ _ h s lt)).1,
           )
 
-      tested : StatementsRead → statements_check P ≡ Pass
+      tested : StatementsRead → statements_check P ≡ Ok tt
       tested R =
           passes_scan _ _ (λ s lt.
           (statement_passes s).1 (all_formed R s lt, (statement_agrees_lem P s (λ t l. all_formed R t (omega arith))).1 (R s lt).1))
@@ -95,7 +95,7 @@ module _ (P : Plan) where
   abbrev pub LoopsParallelizable : Type 0
   LoopsParallelizable = (f : ℕ) → f < statement_count P → statement_kind P f ≡ 0 → ParallelizableLoop P f
 
-  pub loops_pass : StatementsRead → (loops_check P ≡ Pass) ↔ LoopsParallelizable
+  pub loops_pass : StatementsRead → (loops_check P ≡ Ok tt) ↔ LoopsParallelizable
   loops_pass R =
       scan_agrees (loop_check P) (λ f. statement_kind P f ≡ 0 → ParallelizableLoop P f) (statement_count P) (λ f lt. (
         λ h e. (loop_parallelizable P (all_formed R) f).0 (implied ((loop_passes f).0 h) ((opens_is P f).1 e)),
@@ -103,7 +103,7 @@ module _ (P : Plan) where
       ))
 
   -- section 6: "assignments .. one per symbol", each "a node of its region"
-  pub assignment_count_passes : (assignment_count_check P ≡ Pass) ↔ SymbolsBefore P (statement_count P) (assignment_count P)
+  pub assignment_count_passes : (assignment_count_check P ≡ Ok tt) ↔ SymbolsBefore P (statement_count P) (assignment_count P)
   unfolding assignment_count_check
   assignment_count_passes =
       (λ h. (symbol_is P).0 (sym (same (require_pass _ _ h))), λ w. required _ _ (same! (sym (symbol_computed P w))))
@@ -120,7 +120,7 @@ module _ (P : Plan) where
 
   -- a record of section 6 that passed
   pub assignment_read :
-      StatementsRead → NodesRead P → (s : ℕ) → s < statement_count P → HasSymbol P s → assignment_check P s ≡ Pass → Assigned s (symbol_node P s)
+      StatementsRead → NodesRead P → (s : ℕ) → s < statement_count P → HasSymbol P s → assignment_check P s ≡ Ok tt → Assigned s (symbol_node P s)
   assignment_read R N s lt y h =
       let t = (assignment_passes s).0 h in
       let l = less (implied t.0 ((has_symbol_lem P s).1 y)) in (
@@ -129,13 +129,13 @@ module _ (P : Plan) where
             (same (implied t.1 ((has_symbol_lem P s).1 y)) ∙ (symbol_region_lem P (upto R lt) y).1 q),
       )
 
-  pub assignments_pass : StatementsRead → NodesRead P → (assignments_check P ≡ Pass) ↔ AssignmentsRead
+  pub assignments_pass : StatementsRead → NodesRead P → (assignments_check P ≡ Ok tt) ↔ AssignmentsRead
   assignments_pass R N = (plainly, tested)
     where
-      plainly : assignments_check P ≡ Pass → AssignmentsRead
+      plainly : assignments_check P ≡ Ok tt → AssignmentsRead
       plainly h s k lt y w = rw (symbol_computed P w) at (assignment_read R N s lt y (scan_pass _ _ h s lt))
 
-      tested : AssignmentsRead → assignments_check P ≡ Pass
+      tested : AssignmentsRead → assignments_check P ≡ Ok tt
       tested A =
           passes_scan _ _ (λ s lt. (assignment_passes s).1 (
             implies (λ y. less! (A s (symbol P s) lt ((has_symbol_lem P s).0 y) (symbols_before P s)).0),
@@ -198,7 +198,7 @@ module _ (P : Plan) where
     pub need_agrees : (s : ℕ) → s < statement_count P → Is (needs_met P s) ↔ NeedsConcluded P s
     need_agrees = needs_concluded P (all_formed R) (nodes_listed N A) (conclusions_agree T)
 
-    pub needs_pass : (needs_check P ≡ Pass) ↔ NeedsMet
+    pub needs_pass : (needs_check P ≡ Ok tt) ↔ NeedsMet
     needs_pass =
         scan_agrees (need_check P) (NeedsConcluded P) (statement_count P) (λ s lt. Iff.trans (need_passes s) (need_agrees s lt))
 
@@ -210,7 +210,7 @@ pub record LoopRefused (P : Plan) (r : Refusal) : Type 0 where
   pub opens : statement_kind P record_of_for ≡ 0
   pub broken : ParallelizableLoop P record_of_for → ⊥
 
-pub loop_refused : (P : Plan) → StatementsRead P → (r : Refusal) → loops_check P ≡ Refuse r → LoopRefused P r
+pub loop_refused : (P : Plan) → StatementsRead P → (r : Refusal) → loops_check P ≡ Err r → LoopRefused P r
 unfolding loop_check
 loop_refused P R r h =
     let w = scan_refuse _ _ r h in
@@ -226,7 +226,7 @@ loop_refused P R r h =
 
 -- where a check refuses
 module _ (p : Bytes) (r : Refusal) where
-  pub statements_refuse : statements_check (plan_of p) ≡ Refuse r → PlanGiven p r
+  pub statements_refuse : statements_check (plan_of p) ≡ Err r → PlanGiven p r
   unfolding statement_check
   statements_refuse h =
       let w = scan_refuse _ _ r h in
@@ -240,17 +240,17 @@ module _ (p : Bytes) (r : Refusal) where
       lacks f.0 ((statement_agrees_lem (plan_of p) w.at (formed_next (plan_of p) F (require_pass _ _ formed))).1 q)))))
 
   pub loops_refuse :
-      StatementsRead (plan_of p) → loops_check (plan_of p) ≡ Refuse r → PlanGiven p r
+      StatementsRead (plan_of p) → loops_check (plan_of p) ≡ Err r → PlanGiven p r
   loops_refuse R h = let w = loop_refused (plan_of p) R r h in rw (← w.refusal) (not_parallelizable refl w.inside w.opens w.broken)
 
-  pub assignment_count_refuses : assignment_count_check (plan_of p) ≡ Refuse r → PlanGiven p r
+  pub assignment_count_refuses : assignment_count_check (plan_of p) ≡ Err r → PlanGiven p r
   unfolding assignment_count_check
   assignment_count_refuses h =
       let f = require_refuse _ _ r h in
       rw (← f.1) (assignment_count_lem refl (symbols_before (plan_of p) (statement_count (plan_of p))) (λ e. lacks f.0 (same! e)))
 
   pub assignments_refuse :
-      StatementsRead (plan_of p) → assignments_check (plan_of p) ≡ Refuse r →
+      StatementsRead (plan_of p) → assignments_check (plan_of p) ≡ Err r →
       PlanGiven p r
   unfolding assignment_check
   assignments_refuse R h =
@@ -273,7 +273,7 @@ module _ (p : Bytes) (r : Refusal) where
   pub needs_refuse :
       StatementsRead (plan_of p) → NodesRead (plan_of p) → AssignmentsRead (plan_of p) →
       ((t : ℕ) → t < step_count (plan_of p) → StepFormed (plan_of p) t) →
-      needs_check (plan_of p) ≡ Refuse r → PlanGiven p r
+      needs_check (plan_of p) ≡ Err r → PlanGiven p r
   unfolding need_check
   needs_refuse R N A T h =
       let w = scan_refuse _ _ r h in

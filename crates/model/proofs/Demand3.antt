@@ -1,11 +1,13 @@
 -- Demand 3 (T5): an accepted plan over data that fit fills the words so that every access of every task is safe. The needs of loops and
 -- accesses are concluded by steps, which are true, and the words hold the nodes' sets. And T6: where all checks pass, acceptance is given.
 use Prim.Native.Nat.{ℕ, suc, ◌+◌, ◌*◌, ◌≤◌, ◌<◌}
-use mathlib.Core.Path.{◌≡◌, sym, ◌∙◌}
+use mathlib.Core.Path.{◌≡◌, sym, ◌∙◌, ap}
 use mathlib.Core.Logic.{inl, inr}
 use mathlib.Core.List.{List}
 use native.Mathlib.Omega.{arith}
 use lib.ListN.{length}
+use Rattle.std.specs.Prelude.{Ok}
+use Rattle.model.specs.declared.Acceptance.{Acceptance}
 use Rattle.model.specs.Tests.{Is}
 use Rattle.model.specs.Bytes.{Bytes}
 use Rattle.model.specs.Layout.{Plan, plan_of, node_count, statement_count, statement_kind, statement_a}
@@ -21,10 +23,8 @@ use Rattle.model.specs.Words.{holds}
 use Rattle.model.specs.Evaluation.{words_needed, inputs_check, evaluation_check, evaluation, filled_words}
 use Rattle.model.specs.Legal.{InSubregion, LegalLoop, Legal}
 use Rattle.model.specs.AcceptedPlans.{Facts}
-use Rattle.model.specs.declared.Answer.TheVariants.{Accepted}
-use Rattle.model.specs.declared.Outcome.TheVariants.{Pass}
 use Rattle.model.proofs.Tests.{both, pair, one, implied, less, less!, most, most!, some_of, pick_true}
-use Rattle.model.proofs.Outcomes.{then_pass, passes_then, require_pass, required, conclude_accepted, conclude_pass}
+use Rattle.model.proofs.Outcomes.{then_pass, passes_then, require_pass, required, conclude_ok, conclude_pass}
 use Rattle.model.proofs.Accepted.{plan_accepted}
 use Rattle.model.proofs.Fitting.{Fit, fit}
 use Rattle.model.proofs.NodeSets.{region_small, node_within}
@@ -127,22 +127,22 @@ module _ (P : Plan) (D : DataSet) (F : Facts P) (fits : Fit P D) where
 
 -- over words that hold the nodes' sets
 pub legal :
-    (p d : Bytes) (words : List ℕ) → plan_check p ≡ Pass → data_check (plan_of p) d ≡ Pass → Filled (plan_of p) (data_of d) words →
+    (p d : Bytes) (words : List ℕ) → plan_check p ≡ Ok tt → data_check (plan_of p) d ≡ Ok tt → Filled (plan_of p) (data_of d) words →
     Legal p d words
 legal p d words plan_passes data_passes filled f lt h =
     legal_loop (plan_of p) (data_of d) (plan_accepted p plan_passes).records (fit (plan_of p) d data_passes) words filled f (omega arith) h
 
 -- what an acceptance by evaluation says
-pub record Evaluated (p d : Bytes) (lent symbols nodes steps : ℕ) : Type 0 where
-  pub plan_passes : plan_check p ≡ Pass
-  pub data_passes : data_check (plan_of p) d ≡ Pass
+pub record Evaluated (p d : Bytes) (lent : ℕ) (a : Acceptance) : Type 0 where
+  pub plan_passes : plan_check p ≡ Ok tt
+  pub data_passes : data_check (plan_of p) d ≡ Ok tt
   pub enough : words_needed (plan_of p) (data_of d) ≤ lent
-  pub counts : accepted (plan_of p) ≡ Accepted symbols nodes steps
+  pub counts : accepted (plan_of p) ≡ a
 
-pub evaluated : (p d : Bytes) (lent a b c : ℕ) → evaluation p d lent ≡ Accepted a b c → Evaluated p d lent a b c
+pub evaluated : (p d : Bytes) (lent : ℕ) (a : Acceptance) → evaluation p d lent ≡ Ok a → Evaluated p d lent a
 unfolding evaluation evaluation_check inputs_check
-evaluated p d lent a b c h =
-    let (passes, counts) = conclude_accepted _ _ a b c h in
+evaluated p d lent a h =
+    let (passes, counts) = conclude_ok _ _ a h in
     let (inputs-pass, enough) = then_pass _ _ passes in
     let (plan_passes, data_passes) = then_pass _ _ inputs-pass in
     let l = most (require_pass _ _ enough) in
@@ -150,23 +150,23 @@ evaluated p d lent a b c h =
 
 -- T6: acceptance is given to each accepted plan, over each data set that fits it, where enough words are lent
 pub acceptance_given :
-    (p d : Bytes) (lent a b c : ℕ) → verdict p ≡ Accepted a b c → data_check (plan_of p) d ≡ Pass →
-    words_needed (plan_of p) (data_of d) ≤ lent → evaluation p d lent ≡ Accepted a b c
+    (p d : Bytes) (lent : ℕ) (a : Acceptance) → verdict p ≡ Ok a → data_check (plan_of p) d ≡ Ok tt →
+    words_needed (plan_of p) (data_of d) ≤ lent → evaluation p d lent ≡ Ok a
 unfolding verdict evaluation evaluation_check inputs_check
-acceptance_given p d lent a b c h data_passes enough =
-    let (plan_passes, counts) = conclude_accepted _ _ a b c h in
-    conclude_pass _ _ (passes_then (passes_then plan_passes data_passes) (required _ _ (most! (omega arith)))) ∙ counts
+acceptance_given p d lent a h data_passes enough =
+    let (plan_passes, counts) = conclude_ok _ _ a h in
+    conclude_pass _ _ (passes_then (passes_then plan_passes data_passes) (required _ _ (most! (omega arith)))) ∙ ap Ok counts
 
 -- T5: every accepted plan serves its loops, over every data set that fits it and whatever the words held
 pub demand_3 :
-    (p d : Bytes) (old : List ℕ) → plan_check p ≡ Pass → data_check (plan_of p) d ≡ Pass →
+    (p d : Bytes) (old : List ℕ) → plan_check p ≡ Ok tt → data_check (plan_of p) d ≡ Ok tt →
     words_needed (plan_of p) (data_of d) ≤ length old → Legal p d (filled_words (plan_of p) (data_of d) old)
 demand_3 p d old plan_passes data_passes enough =
     legal p d _ plan_passes data_passes (filled_holds (plan_of p) (data_of d) old enough)
 
 pub demand_3_evaluated :
-    (p d : Bytes) (old : List ℕ) (a b c : ℕ) → evaluation p d (length old) ≡ Accepted a b c →
+    (p d : Bytes) (old : List ℕ) (a : Acceptance) → evaluation p d (length old) ≡ Ok a →
     Legal p d (filled_words (plan_of p) (data_of d) old)
-demand_3_evaluated p d old a b c h =
-    let E = evaluated p d (length old) a b c h in
+demand_3_evaluated p d old a h =
+    let E = evaluated p d (length old) a h in
     demand_3 p d old E.plan_passes E.data_passes E.enough

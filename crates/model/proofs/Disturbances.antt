@@ -6,10 +6,11 @@ use mathlib.Core.Bool.{Bool}
 use mathlib.Core.Logic.{inl, inr}
 use mathlib.Core.List.{[], ◌∷◌, ◌++◌}
 use native.Mathlib.Omega.{arith}
+use Rattle.std.specs.Prelude.{Ok}
 use Rattle.model.specs.Tests.{Is, ◌and◌, non, ◌=?◌, ◌<?◌}
 use Rattle.model.specs.Bytes.{Bytes}
 use Rattle.model.specs.Answers.{report, refusal}
-use Rattle.model.specs.Outcomes.{◌then◌}
+use Rattle.model.specs.Outcomes.{◌then◌, Outcome}
 use Rattle.model.specs.Encoding.{framed_bytes}
 use Rattle.model.specs.Layout.{Plan, plan_of, statement_count, source, statement_kind, statement_a, statement_b}
 use Rattle.model.specs.Statements.{operand_definition, operand_region, access_field}
@@ -20,8 +21,6 @@ use Rattle.model.specs.Verdict.{statements_check, nodes_check, assignments_check
 use Rattle.model.specs.DataSets.{DataSet, data_of, size, entry, data_check}
 use Rattle.model.specs.Touches.{Value, itself, called, copied}
 use Rattle.model.specs.Undisturbed.{TouchesField, ReducesField, UndisturbedLoop, Undisturbed}
-use Rattle.model.specs.declared.Outcome.{Outcome}
-use Rattle.model.specs.declared.Outcome.TheVariants.{Pass}
 use Rattle.model.proofs.Tests.{both, pair, lacks, same, same!, less}
 use Rattle.model.proofs.Computing.{definitions}
 use Rattle.model.proofs.FiledPlans.{plan, nodes_a}
@@ -72,12 +71,12 @@ after_loops P = nodes_check P then assignment_count_check P then assignments_che
 -- the plan is refused for the loop of FOR f and for nothing else, and over the data set, which fits, an iteration disturbs another
 pub record Disturbed (f : ℕ) (p : Bytes) : Type 0 where
   pub refused : report (verdict p) ≡ refusal 8 f
-  pub nothing_else : after_loops (plan_of p) ≡ Pass
-  pub fits : data_check (plan_of p) shared_entry ≡ Pass
+  pub nothing_else : after_loops (plan_of p) ≡ Ok tt
+  pub fits : data_check (plan_of p) shared_entry ≡ Ok tt
   pub disturbed : Undisturbed p shared_entry → ⊥
 
 -- touches of a loop that begins with FOR f and a CALL, from tests that compute
-module _ (P : Plan) (D : DataSet) (f : ℕ) (statements : statements_check P ≡ Pass) where
+module _ (P : Plan) (D : DataSet) (f : ℕ) (statements : statements_check P ≡ Ok tt) where
   formed : FormedBefore P (statement_count P)
   formed = all_formed P ((statements_pass P).0 statements)
 
@@ -176,9 +175,9 @@ pub record Disturbances : Type 0 where
   pub reduction_beside_centered_reduction : Disturbed 0 (loop_of (reduce 1 0 ++ reduce 0 0) (1 ∷ 0 ∷ []))
 
 disturbance :
-    {f : ℕ} {p : Bytes} → report (verdict p) ≡ refusal 8 f → after_loops (plan_of p) ≡ Pass → data_check (plan_of p) shared_entry ≡ Pass →
-    Is (f <? statement_count (plan_of p) and statement_kind (plan_of p) f =? 0) → statements_check (plan_of p) ≡ Pass →
-    (statements_check (plan_of p) ≡ Pass → UndisturbedLoop (plan_of p) (data_of shared_entry) f → ⊥) → Disturbed f p
+    {f : ℕ} {p : Bytes} → report (verdict p) ≡ refusal 8 f → after_loops (plan_of p) ≡ Ok tt → data_check (plan_of p) shared_entry ≡ Ok tt →
+    Is (f <? statement_count (plan_of p) and statement_kind (plan_of p) f =? 0) → statements_check (plan_of p) ≡ Ok tt →
+    (statements_check (plan_of p) ≡ Ok tt → UndisturbedLoop (plan_of p) (data_of shared_entry) f → ⊥) → Disturbed f p
 disturbance {f} refused nothing_else fits loop statements false =
     record {
       refused = refused;

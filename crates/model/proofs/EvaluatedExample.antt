@@ -6,6 +6,7 @@ use mathlib.Core.Bool.{false}
 use mathlib.Core.List.{List, [], ◌∷◌, ◌++◌}
 use native.Mathlib.Omega.{arith}
 use lib.ListN.{replicate}
+use Rattle.std.specs.Prelude.{Ok}
 use Rattle.model.specs.Tests.{◌and◌, ◌or◌, ◌=?◌, ◌<?◌, ◌≤?◌, any, pick}
 use Rattle.model.specs.Bytes.{Bytes, boundary, body}
 use Rattle.model.specs.Encoding.{framed_bytes}
@@ -18,7 +19,6 @@ use Rattle.model.specs.Membership.{equal, node_sets_by, node_sets, member}
 use Rattle.model.specs.Words.{from_bits, word, store}
 use Rattle.model.specs.Evaluation.{evaluation, node_word, filled_words}
 use Rattle.model.specs.AcceptedPlans.{Facts}
-use Rattle.model.specs.declared.Answer.TheVariants.{Accepted}
 use Rattle.model.proofs.Tests.{split, fails}
 use Rattle.model.proofs.Words.{number_cut, store_same}
 use Rattle.model.proofs.Accepted.{plan_accepted}
@@ -73,12 +73,12 @@ example_words =
     ++ piece 4 0 ++ piece 9 0 ++ piece 2 0
 
 -- the plan is accepted over the data set
-pub example_accepted : evaluation example_plan (example_data 7) 192 ≡ Accepted 6 8 8
+pub example_accepted : evaluation example_plan (example_data 7) 192 ≡ Ok (record { symbols = 6; nodes = 8; steps = 8 })
 unfolding definitions
 example_accepted = refl
 
-pub example_checked : Evaluated example_plan (example_data 7) 192 6 8 8
-example_checked = evaluated example_plan (example_data 7) 192 6 8 8 example_accepted
+pub example_checked : Evaluated example_plan (example_data 7) 192 (record { symbols = 6; nodes = 8; steps = 8 })
+example_checked = evaluated example_plan (example_data 7) 192 _ example_accepted
 
 pub example_facts : Facts (plan_of example_plan)
 example_facts = (plan_accepted example_plan example_checked.plan_passes).records

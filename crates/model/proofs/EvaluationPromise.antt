@@ -6,6 +6,8 @@ use mathlib.Core.List.{List}
 use mathlib.Core.Bool.{false}
 use native.Mathlib.Omega.{arith}
 use lib.ListN.{length, drop}
+use Rattle.std.specs.Prelude.{Err}
+use Rattle.model.specs.Outcomes.{Answer}
 use Rattle.model.specs.Tests.{Is}
 use Rattle.model.specs.Answers.{report}
 use Rattle.model.specs.Bytes.{Bytes}
@@ -20,10 +22,7 @@ use Rattle.model.specs.PlainPlan.{WellFormed, Parallelizable, Licensed, Conclude
 use Rattle.model.specs.PlainData.{Fits}
 use Rattle.model.specs.PlainSets.{OperatorSets}
 use Rattle.model.specs.Promises.{Accepts, EvaluationPromise}
-use Rattle.model.specs.declared.Answer.{Answer}
-use Rattle.model.specs.declared.Answer.TheVariants.{Refused}
 use Rattle.model.specs.declared.Refusal.{Refusal}
-use Rattle.model.specs.declared.Outcome.TheVariants.{Refuse}
 use Rattle.model.proofs.Tests.{split, fails}
 use Rattle.model.proofs.Outcomes.{conclude_refused, conclude_pass}
 use Rattle.model.proofs.Accepted.{plan_accepted}
@@ -40,11 +39,11 @@ use Rattle.model.proofs.Demand2.{demand_2}
 
 module _ (p d : Bytes) (old new : List ℕ) (r : Answer) (answers : r ≡ evaluation p d (length old)) (leaves : new ≡ words_after p d old r) where
   module _ (a : Accepts r) where
-    checked : Evaluated p d (length old) a.0 a.1 a.2
-    checked = evaluated p d (length old) _ _ _ (sym answers ∙ a.3)
+    checked : Evaluated p d (length old) a.0
+    checked = evaluated p d (length old) _ (sym answers ∙ a.1)
 
     filled : new ≡ filled_words (plan_of p) (data_of d) old
-    filled = leaves ∙ ap (words_after p d old) a.3
+    filled = leaves ∙ ap (words_after p d old) a.1
 
     exact : (j i e : ℕ) → j < node_count (plan_of p) → i < pieces (data_of d) → e < 512 →
         holds new ((j * pieces (data_of d) + i) * 8) e ≡ member (plan_of p) (data_of d) j i e
@@ -68,9 +67,9 @@ module _ (p d : Bytes) (old new : List ℕ) (r : Answer) (answers : r ≡ evalua
     kept : (length new ≡ length old) × (drop (words_needed (plan_of p) (data_of d)) new ≡ drop (words_needed (plan_of p) (data_of d)) old)
     kept = rw filled (filled_length (plan_of p) (data_of d) old, filled_later (plan_of p) (data_of d) old)
 
-  refuses : (q : Refusal) → r ≡ Refused q → evaluation_check p d (length old) ≡ Refuse q
+  refuses : (q : Refusal) → r ≡ Err q → evaluation_check p d (length old) ≡ Err q
   unfolding evaluation
-  refuses q h = conclude_refused _ _ _ _ q (sym answers ∙ h)
+  refuses q h = conclude_refused _ _ q (sym answers ∙ h)
 
   accepts : Accepts r ↔
       (WellFormed p × Parallelizable p × Licensed p × Concluded p × Fits (plan_of p) d × (words_needed (plan_of p) (data_of d) ≤ length old))
@@ -78,12 +77,12 @@ module _ (p d : Bytes) (old new : List ℕ) (r : Answer) (answers : r ≡ evalua
   accepts = (
     λ a.
         let c = checked a in
-        let (formed, loops, steps, needs) = (demand_2 p).0 (_, _, _, conclude_pass _ _ c.plan_passes) in
+        let (formed, loops, steps, needs) = (demand_2 p).0 (_, conclude_pass _ _ c.plan_passes) in
         (formed, loops, steps, needs, (data_fits (plan_of p) d).0 c.data_passes, c.enough),
     λ w.
         let (formed, loops, steps, needs, fits, enough) = w in
-        let (a, b, c, h) = (demand_2 p).1 (formed, loops, steps, needs) in
-        (a, b, c, answers ∙ acceptance_given p d (length old) a b c h ((data_fits (plan_of p) d).1 fits) enough),
+        let (a, h) = (demand_2 p).1 (formed, loops, steps, needs) in
+        (a, answers ∙ acceptance_given p d (length old) a h ((data_fits (plan_of p) d).1 fits) enough),
   )
 
   pub evaluation_promise : EvaluationPromise p d old new r

@@ -5,9 +5,10 @@ use mathlib.Core.Path.{◌≡◌, ap}
 use mathlib.Core.Logic.{◌↔◌}
 use mathlib.Core.Bool.{Bool}
 use native.Mathlib.Omega.{arith}
+use Rattle.std.specs.Prelude.{Err}
 use Rattle.model.specs.Bytes.{Bytes}
 use Rattle.model.specs.Answers.{refusal_report}
-use Rattle.model.specs.Outcomes.{require, ◌then◌, scan}
+use Rattle.model.specs.Outcomes.{require, ◌then◌, scan, Outcome}
 use Rattle.model.specs.Layout.{Plan, plan_of, section_check, layout_check, statement_count, statement_kind}
 use Rattle.model.specs.Declarations.{region_check, map_check, supplied_check}
 use Rattle.model.specs.Statements.{statement_check}
@@ -23,9 +24,6 @@ use Rattle.model.specs.Encoding.{Octets}
 use Rattle.model.specs.Undisturbed.{PlainlyUndisturbedLoop, Undisturbed, PlainlyUndisturbed}
 use Rattle.model.specs.declared.Refusal.{Refusal}
 use Rattle.model.specs.declared.Refusal.TheVariants.{NotParallelizable}
-use Rattle.model.specs.declared.Outcome.{Outcome}
-use Rattle.model.specs.declared.Outcome.TheVariants.{Refuse}
-use Rattle.model.specs.declared.Answer.TheVariants.{Refused}
 use Rattle.model.proofs.Outcomes.{then_cases, require_refuse, scan_pass, scan_refuse, conclude_refused}
 use Rattle.model.proofs.Accepted.{laid_out_lem, limits}
 use Rattle.model.proofs.LayoutAgrees.{layout_read, well_formed_layout, map_formed, supplied_formed}
@@ -70,7 +68,7 @@ module _ (p : Bytes) (W : WellFormed p) where
 -- which checks give refusal 8
 module _ (f : ℕ) where
   abbrev Refuses : Outcome → Type 0
-  Refuses o = o ≡ Refuse (NotParallelizable f)
+  Refuses o = o ≡ Err (NotParallelizable f)
 
   abbrev Never : Outcome → Type 0
   Never o = Refuses o → ⊥
@@ -134,11 +132,11 @@ module _ (f : ℕ) where
 
 -- refusal 8 is given for no loop that all data sets leave undisturbed: over one that fits, this loop is disturbed
 pub refused_disturbed :
-    (p : Bytes) (f : ℕ) → verdict p ≡ Refused (NotParallelizable f) →
+    (p : Bytes) (f : ℕ) → verdict p ≡ Err (NotParallelizable f) →
     (d : Bytes) × Octets d × Fits (plan_of p) d × (PlainlyUndisturbedLoop (plan_of p) (data_of d) f → ⊥)
 unfolding verdict
 refused_disturbed p f h =
-    let L = located f p (conclude_refused _ _ _ _ (NotParallelizable f) h) in
+    let L = located f p (conclude_refused _ _ (NotParallelizable f) h) in
     let R = L.regions_listed in
     let w = L.refused in
     let here : w.record_of_for ≡ f = ap (λ r. (refusal_report r).place) w.refusal in (

@@ -8,6 +8,8 @@ use mathlib.Core.Bool.{Bool}
 use native.Mathlib.Decide.{dec_lt}
 use native.Mathlib.Omega.{arith}
 use lib.ListN.{length, get_or, drop}
+use Rattle.std.specs.Prelude.{Ok, Err}
+use Rattle.model.specs.Outcomes.{Written}
 use Rattle.model.specs.Tests.{Is, ◌and◌, non, ◌≤?◌}
 use Rattle.model.specs.Answers.{refusal_report, written_report}
 use Rattle.model.specs.Bytes.{Bytes}
@@ -27,11 +29,8 @@ use Rattle.model.specs.GivenWhen.{QuestionGivenWhen, no_node, no_piece, no_eleme
 use Rattle.model.specs.RefusalOrder.{turns, turn, Earlier, by_stage, by_item, by_check}
 use Rattle.model.specs.Promises.{ExplanationPromise}
 use Rattle.model.specs.declared.Refusal.{Refusal}
-use Rattle.model.specs.declared.Outcome.TheVariants.{Pass, Refuse}
-use Rattle.model.specs.declared.Written.{Written}
-use Rattle.model.specs.declared.Written.TheVariants.{Length, Refused}
 use Rattle.model.proofs.Tests.{both, pair, lacks, less, less!, most, most! }
-use Rattle.model.proofs.Outcomes.{then_pass, passes_then, then_cases, require_pass, required, require_refuse, writing_length, writing_refused, writing_pass}
+use Rattle.model.proofs.Outcomes.{then_pass, passes_then, then_cases, require_pass, required, require_refuse, conclude_ok, conclude_refused, conclude_pass}
 use Rattle.model.proofs.Turns.{turn_of, check_passed, stage_passed, not_itself, ClearUpTo, clear_passes, clear_test, clear_first, clear_next, clear_both, Staged, staged_require, staged_then}
 use Rattle.model.proofs.Words.{store_length, store_inside, store_behind}
 use Rattle.model.proofs.Fitting.{Fit, fit}
@@ -71,7 +70,7 @@ module _ {p d : Bytes} (inputs : AcceptedInputs p d) (q : Question) where
     element_inside : q.element < size D (node_region P q.node)
     holds : Is (member P D q.node q.piece q.element)
 
-  asked_passes : (question_check P D q ≡ Pass) ↔ Asked
+  asked_passes : (question_check P D q ≡ Ok tt) ↔ Asked
   unfolding question_check
   asked_passes = (
     λ h.
@@ -91,7 +90,7 @@ module _ {p d : Bytes} (inputs : AcceptedInputs p d) (q : Question) where
   )
 
   -- 16 holds as the table says
-  question_refuses : (r : Refusal) → question_check P D q ≡ Refuse r → QuestionGivenWhen P D q (refusal_report r).number (refusal_report r).place
+  question_refuses : (r : Refusal) → question_check P D q ≡ Err r → QuestionGivenWhen P D q (refusal_report r).number (refusal_report r).place
   unfolding question_check
   question_refuses r h =
       then_cases _ _ r h (λ h. let (n, e) = require_refuse _ _ r h in rw (← e) (no_node refl refl (λ l. lacks n (less! l)))) λ node h.
@@ -163,7 +162,7 @@ module _ {p d : Bytes} (inputs : AcceptedInputs p d) (q : Question) where
 
 -- the chain is short, wherever it is asked how long it is
 pub explanation_needed :
-    (p d : Bytes) (q : Question) → inputs_check p d ≡ Pass → question_check (plan_of p) (data_of d) q ≡ Pass → pairs_needed (plan_of p) (data_of d) q ≤ 48
+    (p d : Bytes) (q : Question) → inputs_check p d ≡ Ok tt → question_check (plan_of p) (data_of d) q ≡ Ok tt → pairs_needed (plan_of p) (data_of d) q ≤ 48
 explanation_needed p d q passed question = let inputs = inputs_accepted p d passed in needed_few inputs q ((asked_passes inputs q).0 question)
 
 -- what explaining answers
@@ -175,7 +174,7 @@ module _ (p d : Bytes) (q : Question) (lentNodes lentElements : ℕ) where
     room_nodes : pairs_needed (plan_of p) (data_of d) q ≤ lentNodes
     room_elements : pairs_needed (plan_of p) (data_of d) q ≤ lentElements
 
-  explained : explanation_check p d q lentNodes lentElements ≡ Pass → Explained
+  explained : explanation_check p d q lentNodes lentElements ≡ Ok tt → Explained
   unfolding explanation_check chain_room_check
   explained h =
       let (inputs, h) = then_pass _ _ h in
@@ -190,7 +189,7 @@ module _ (p d : Bytes) (q : Question) (lentNodes lentElements : ℕ) where
 
   -- T2b
   pub explanation_refuses :
-      (r : Refusal) → explanation_check p d q lentNodes lentElements ≡ Refuse r →
+      (r : Refusal) → explanation_check p d q lentNodes lentElements ≡ Err r →
       ExplanationGivenWhen p d q lentNodes lentElements (refusal_report r).number (refusal_report r).place
   unfolding explanation_check inputs_check chain_room_check
   explanation_refuses r h =
@@ -212,7 +211,7 @@ module _ (p d : Bytes) (q : Question) (lentNodes lentElements : ℕ) where
 
   -- "The first met is given"
   pub explanation_first :
-      (r : Refusal) → explanation_check p d q lentNodes lentElements ≡ Refuse r → (n place : ℕ) → Earlier (turn n place) (turn_of r) →
+      (r : Refusal) → explanation_check p d q lentNodes lentElements ≡ Err r → (n place : ℕ) → Earlier (turn n place) (turn_of r) →
       ExplanationGivenWhen p d q lentNodes lentElements n place → ⊥
   unfolding explanation_check chain_room_check turn turns
   explanation_first r h n place e w = go (clear_before _ r h e) w
@@ -245,7 +244,7 @@ module _ (p d : Bytes) (q : Question) (lentNodes lentElements : ℕ) where
 
   -- a chain is written exactly when the plain statements hold
   passes_exactly :
-      (explanation_check p d q lentNodes lentElements ≡ Pass) ↔
+      (explanation_check p d q lentNodes lentElements ≡ Ok tt) ↔
       (WellFormed p × Parallelizable p × Licensed p × Concluded p × Fits (plan_of p) d × Explainable (plan_of p) (data_of d) q lentNodes lentElements)
   unfolding explanation_check chain_room_check
   passes_exactly = (
@@ -290,10 +289,10 @@ module _ (p d : Bytes) (q : Question) (oldNodes newNodes oldElements newElements
     (answers : r ≡ explanation p d q (length oldNodes) (length oldElements)) (leaves-nodes : newNodes ≡ nodes_after p d q oldNodes r)
     (leaves-elements : newElements ≡ elements_after p d q oldElements r) where
   -- all checks pass, and the length is that of the chain
-  module _ (n : ℕ) (is : r ≡ Length n) where
-    passes : (explanation_check p d q (length oldNodes) (length oldElements) ≡ Pass) × (pairs_needed (plan_of p) (data_of d) q ≡ n)
+  module _ (n : ℕ) (is : r ≡ Ok n) where
+    passes : (explanation_check p d q (length oldNodes) (length oldElements) ≡ Ok tt) × (pairs_needed (plan_of p) (data_of d) q ≡ n)
     unfolding explanation
-    passes = writing_length _ _ n (sym answers ∙ is)
+    passes = conclude_ok _ _ n (sym answers ∙ is)
 
     done : Explained p d q (length oldNodes) (length oldElements)
     done = explained p d q _ _ passes.0
@@ -336,9 +335,9 @@ module _ (p d : Bytes) (q : Question) (oldNodes newNodes oldElements newElements
         let same : m ≡ n = length ∙ passes.1 in
         (same, λ k lt. let (a, b) = pairs k (omega arith) in let (c, e) = pairs_at k lt in (a ∙ sym c, b ∙ sym e))
 
-  refuses : (s : Refusal) → r ≡ Refused s → explanation_check p d q (length oldNodes) (length oldElements) ≡ Refuse s
+  refuses : (s : Refusal) → r ≡ Err s → explanation_check p d q (length oldNodes) (length oldElements) ≡ Err s
   unfolding explanation
-  refuses s is = writing_refused _ _ s (sym answers ∙ is)
+  refuses s is = conclude_refused _ _ s (sym answers ∙ is)
 
   pub explanation_promise : ExplanationPromise p d q oldNodes newNodes oldElements newElements r
   unfolding written_report explanation list_after
@@ -349,7 +348,7 @@ module _ (p d : Bytes) (q : Question) (oldNodes newNodes oldElements newElements
         elements = leaves-elements;
         exactly = (
           λ w. (passes_exactly p d q _ _).0 (passes w.0 w.1).0,
-          λ w. (_, answers ∙ writing_pass _ _ ((passes_exactly p d q _ _).1 w)),
+          λ w. (_, answers ∙ conclude_pass _ _ ((passes_exactly p d q _ _).1 w)),
         );
         untouched = λ s is. (leaves-nodes ∙ rw is, leaves-elements ∙ rw is);
         later = λ n is.

@@ -4,6 +4,8 @@ use Prim.Native.Nat.{ℕ, zero, suc}
 use mathlib.Core.Path.{◌≡◌, refl}
 use mathlib.Core.List.{List, [], ◌∷◌, ◌++◌, map}
 use mathlib.Core.Bool.{Bool, true, false}
+use Rattle.std.specs.Prelude.{Ok, Err}
+use Rattle.model.specs.Outcomes.{Written}
 use Rattle.model.specs.Answers.{report, refusal}
 use Rattle.model.specs.Bytes.{Bytes}
 use Rattle.model.specs.Partitions.{contiguous, equal_start}
@@ -13,12 +15,9 @@ use Rattle.model.specs.DataSets.{data_of, pieces, size, data_check}
 use Rattle.model.specs.Membership.{member}
 use Rattle.model.specs.Evaluation.{evaluation}
 use Rattle.model.specs.Provenance.{asking, explanation, nodes_after, elements_after}
-use Rattle.model.specs.declared.Outcome.TheVariants.{Pass}
 use Rattle.model.specs.declared.Report.{Report}
 use Rattle.model.specs.declared.Refusal.TheVariants.{InvalidData, OutputTooSmall, NotFound}
 use Rattle.model.specs.declared.Question.{Question}
-use Rattle.model.specs.declared.Written.{Written}
-use Rattle.model.specs.declared.Written.TheVariants.{Length, Refused}
 use Rattle.model.proofs.Computing.{definitions}
 use Rattle.model.proofs.FiledPlans.{plan_a, plan_a_stepless, plan_a_written, plan_b, plan_b_partial, data_d}
 
@@ -95,8 +94,8 @@ abbrev pub evaluated : Bytes → ℕ → Output
 evaluated p lent = answer (report (evaluation p data_d lent))
 
 pub filed_evaluations :
-    (data_check (plan_of plan_a) data_d ≡ Pass) × (evaluated plan_a 32 ≡ accepts 4 2 3) × (evaluated plan_a 31 ≡ refuses 15 32)
-    × (data_check (plan_of plan_b) data_d ≡ Pass) × (evaluated plan_b 48 ≡ accepts 4 3 4) × (evaluated plan_b 47 ≡ refuses 15 48)
+    (data_check (plan_of plan_a) data_d ≡ Ok tt) × (evaluated plan_a 32 ≡ accepts 4 2 3) × (evaluated plan_a 31 ≡ refuses 15 32)
+    × (data_check (plan_of plan_b) data_d ≡ Ok tt) × (evaluated plan_b 48 ≡ accepts 4 3 4) × (evaluated plan_b 47 ≡ refuses 15 48)
 unfolding definitions
 filed_evaluations = (refl, refl, refl, refl, refl, refl)
 
@@ -113,14 +112,14 @@ explained p q =
     record { answered = r; nodes = nodes_after p data_d q old r; elements = elements_after p data_d q old r }
 
 pub filed_explanations :
-    (explained plan_a (asking 1 1 2) ≡ record { answered = Length 2; nodes = 1 ∷ 0 ∷ 9 ∷ []; elements = 2 ∷ 4 ∷ 9 ∷ [] })
-    × (explained plan_b (asking 2 0 1) ≡ record { answered = Length 3; nodes = 2 ∷ 1 ∷ 0 ∷ []; elements = 1 ∷ 3 ∷ 1 ∷ [] })
-    × (explained plan_a (asking 1 0 1) ≡ record { answered = Refused (NotFound 4); nodes = 9 ∷ 9 ∷ 9 ∷ []; elements = 9 ∷ 9 ∷ 9 ∷ [] })
-    × (explanation plan_a data_d (asking 2 2 9) 3 3 ≡ Refused (NotFound 1))
-    × (explanation plan_a data_d (asking 1 2 9) 3 3 ≡ Refused (NotFound 2))
-    × (explanation plan_a data_d (asking 1 1 3) 3 3 ≡ Refused (NotFound 3))
-    × (explanation plan_a data_d (asking 1 1 2) 1 2 ≡ Refused (OutputTooSmall 2))
-    × (explanation plan_a data_d (asking 1 1 2) 2 1 ≡ Refused (OutputTooSmall 2))
-    × (explanation plan_a [] (asking 2 2 9) 0 0 ≡ Refused InvalidData)
+    (explained plan_a (asking 1 1 2) ≡ record { answered = Ok 2; nodes = 1 ∷ 0 ∷ 9 ∷ []; elements = 2 ∷ 4 ∷ 9 ∷ [] })
+    × (explained plan_b (asking 2 0 1) ≡ record { answered = Ok 3; nodes = 2 ∷ 1 ∷ 0 ∷ []; elements = 1 ∷ 3 ∷ 1 ∷ [] })
+    × (explained plan_a (asking 1 0 1) ≡ record { answered = Err (NotFound 4); nodes = 9 ∷ 9 ∷ 9 ∷ []; elements = 9 ∷ 9 ∷ 9 ∷ [] })
+    × (explanation plan_a data_d (asking 2 2 9) 3 3 ≡ Err (NotFound 1))
+    × (explanation plan_a data_d (asking 1 2 9) 3 3 ≡ Err (NotFound 2))
+    × (explanation plan_a data_d (asking 1 1 3) 3 3 ≡ Err (NotFound 3))
+    × (explanation plan_a data_d (asking 1 1 2) 1 2 ≡ Err (OutputTooSmall 2))
+    × (explanation plan_a data_d (asking 1 1 2) 2 1 ≡ Err (OutputTooSmall 2))
+    × (explanation plan_a [] (asking 2 2 9) 0 0 ≡ Err InvalidData)
 unfolding definitions
 filed_explanations = (refl, refl, refl, refl, refl, refl, refl, refl, refl)

@@ -9,9 +9,10 @@ use mathlib.Core.Bool.{Bool}
 use native.Mathlib.Decide.{dec_lt}
 use native.Mathlib.Omega.{arith}
 use lib.ListN.{get_or, length}
+use Rattle.std.specs.Prelude.{Ok, Err}
 use Rattle.model.specs.Tests.{Is, ◌and◌, pick, ◌=?◌, ◌<?◌, ◌≤?◌, every}
 use Rattle.model.specs.Bytes.{Bytes, byte, u16, boundary, body}
-use Rattle.model.specs.Outcomes.{require, ◌then◌, scan}
+use Rattle.model.specs.Outcomes.{require, ◌then◌, scan, Outcome}
 use Rattle.model.specs.Layout.{Plan, plan_of, section_check, layout_check, region_count, map_count, supplied_count, statement_count, node_count, assignment_count, step_count, fields, source, target, totality, supplied_region, supplied_flags, statement_kind, step_lemma, step_x, step_y, step_p, step_q}
 use Rattle.model.specs.Declarations.{region_check, map_check, supplied_check}
 use Rattle.model.specs.Statements.{statement_check}
@@ -30,8 +31,6 @@ use Rattle.model.specs.GivenWhen.{RecordInvalid, RegionsDisagree, PlanGivenWhen,
 use Rattle.model.specs.RefusalOrder.{Turn, turn_at, turns, turn, Earlier}
 use Rattle.model.specs.declared.Refusal.{Refusal}
 use Rattle.model.specs.declared.Refusal.TheVariants.{Truncated, UnknownEdition, TrailingBytes, InvalidRecord, RegionMismatch, InvalidData, InvalidPartition}
-use Rattle.model.specs.declared.Outcome.{Outcome}
-use Rattle.model.specs.declared.Outcome.TheVariants.{Pass, Refuse}
 use Rattle.model.proofs.Tests.{both, lacks, implied, less, most, every_at, pick-false, refuted, fails, same, ◌also◌, Firsts, at_each}
 use Rattle.model.proofs.Outcomes.{then_assoc, passes_then, then_cases, require_pass, required, require_refuse, scan_pass, scan_refuse}
 use Rattle.model.proofs.Turns.{turn_of, stage_passed, item_passed, check_passed, not_itself, ClearUpTo, clear_passes, clear_test, clear_first, clear_next, clear_both, ReachedAt, clear_scan, Placed, placed_require, placed_then, staged_require, scan_stage, clear_items}
@@ -49,10 +48,10 @@ use Rattle.model.proofs.Demand2Loops.{not_implied, statement_passes, StatementsR
 use Rattle.model.proofs.DataAgrees.{frame_fits, entry_fits_lem, supplied_right}
 
 -- checks in a row, whichever way they are grouped
-then_end : (a : Outcome) → a then Pass ≡ a
+then_end : (a : Outcome) → a then (Ok tt) ≡ a
 unfolding ◌then◌
-then_end Pass = refl
-then_end (Refuse r) = refl
+then_end (Ok _) = refl
+then_end (Err r) = refl
 
 -- section and record of a place
 section_of : (k r : ℕ) → r < 256 → (k * 256 + r) / 256 ≡ k
@@ -126,12 +125,12 @@ module _ (P : Plan) where
   need_placed s = placed_require _ _ (refl, refl)
 
   -- what sections 6 and the needs refuse for is a symbol's
-  assignment_symbol : (s : ℕ) (q : Refusal) → assignment_check P s ≡ Refuse q → Is (has_symbol P s)
+  assignment_symbol : (s : ℕ) (q : Refusal) → assignment_check P s ≡ Err q → Is (has_symbol P s)
   unfolding assignment_check
   assignment_symbol s q e =
       then_cases _ _ q e (λ f. (not_implied (require_refuse _ _ q f).0).0) (λ l f. (not_implied (require_refuse _ _ q f).0).0)
 
-  unmet_symbol : (s : ℕ) (q : Refusal) → need_check P s ≡ Refuse q → Is (has_symbol P s)
+  unmet_symbol : (s : ℕ) (q : Refusal) → need_check P s ≡ Err q → Is (has_symbol P s)
   unfolding need_check
   unmet_symbol s q e = (has_symbol_lem P s).1 (need_symbol P s (require_refuse _ _ q e).0)
 
@@ -167,10 +166,10 @@ module _ (p d : Bytes) where
 
   -- outcome and number of a stage, counted from 0
   unfoldable outcome_at : ℕ → Outcome
-  outcome_at K = (get_or stages K (stage_of 0 0 Pass)).outcome
+  outcome_at K = (get_or stages K (stage_of 0 0 (Ok tt))).outcome
 
   unfoldable number_at : ℕ → ℕ
-  number_at K = (get_or stages K (stage_of 0 0 Pass)).number
+  number_at K = (get_or stages K (stage_of 0 0 (Ok tt))).number
 
   -- the inputs are checked by these stages, one after the other
   in_stages : inputs_check p d ≡ scan outcome_at 0 17
@@ -185,14 +184,14 @@ module _ (p d : Bytes) where
       ordered = unfold turn turns pick ◌=?◌ number_at stages every ◌<?◌ ◌and◌ in refl
 
   -- the layout passed
-  laid : ((i : ℕ) → i < 4 → outcome_at i ≡ Pass) → LaidOut p
+  laid : ((i : ℕ) → i < 4 → outcome_at i ≡ Ok tt) → LaidOut p
   unfolding layout_check outcome_at stages
   laid h =
       laid_out_lem p (passes_then (h 0 (omega arith)) (passes_then (h 1 (omega arith)) (passes_then (h 2 (omega arith)) (h 3 (omega arith)))))
 
   -- what a stage refuses for, after those before it passed, has the stage's number
   abbrev Located : ℕ → Type 0
-  Located j = ((i : ℕ) → i < j → outcome_at i ≡ Pass) → (s : Refusal) → outcome_at j ≡ Refuse s → (turn_of s).stage ≡ number_at j
+  Located j = ((i : ℕ) → i < j → outcome_at i ≡ Ok tt) → (s : Refusal) → outcome_at j ≡ Err s → (turn_of s).stage ≡ number_at j
 
   located : Firsts Located 0 17
   unfolding turn turns pick ◌=?◌ outcome_at number_at stages assignment_count_check entries_check
@@ -216,11 +215,11 @@ module _ (p d : Bytes) where
       also (λ b. scan_stage _ _ _ (λ k l. staged_require _ _ refl))
       also tt
     where
-      few : {j : ℕ} → ((i : ℕ) → i < j → outcome_at i ≡ Pass) → 4 ≤ j → Limits (plan_of p)
+      few : {j : ℕ} → ((i : ℕ) → i < j → outcome_at i ≡ Ok tt) → 4 ≤ j → Limits (plan_of p)
       few b l = limits p (laid (λ i k. b i (omega arith)))
 
   -- what the inputs are refused for comes before all that is asked after them
-  inputs_early : (s : Refusal) → inputs_check p d ≡ Refuse s → (turn_of s).stage ≤ 100
+  inputs_early : (s : Refusal) → inputs_check p d ≡ Err s → (turn_of s).stage ≤ 100
   unfolding turn turns number_at stages
   inputs_early s e =
       let w = scan_refuse outcome_at 17 s (sym in_stages ∙ e) in
@@ -564,19 +563,19 @@ module _ (p d : Bytes) where
     data_rows_clear h = data_clear (clear_first _ _ h)
 
     pub after_inputs :
-        {t : Turn} → 100 < t.stage → ClearUpTo t (inputs_check p d then rest) → (inputs_check p d ≡ Pass) × ClearUpTo t rest
+        {t : Turn} → 100 < t.stage → ClearUpTo t (inputs_check p d then rest) → (inputs_check p d ≡ Ok tt) × ClearUpTo t rest
     after_inputs {t} late h =
         let pass = clear_passes t (inputs_check p d) (clear_first _ _ h) (λ s e. let l = inputs_early s e in stage_passed (omega arith)) in
         (pass, clear_next _ _ h pass)
 
 -- nothing earlier than the refusal that is given is refused
 pub clear_before :
-    (o : Outcome) (r : Refusal) → o ≡ Refuse r → {t : Turn} → Earlier t (turn_of r) → ClearUpTo t o
+    (o : Outcome) (r : Refusal) → o ≡ Err r → {t : Turn} → Earlier t (turn_of r) → ClearUpTo t o
 clear_before o r h e s k = let is : r ≡ s = cc in rw is at e
 
 -- by evaluating
 pub evaluation_first :
-    (p d : Bytes) (lent : ℕ) (r : Refusal) → evaluation_check p d lent ≡ Refuse r →
+    (p d : Bytes) (lent : ℕ) (r : Refusal) → evaluation_check p d lent ≡ Err r →
     (n q : ℕ) → Earlier (turn n q) (turn_of r) → EvaluationGivenWhen p d lent n q → ⊥
 unfolding evaluation_check turn turns
 evaluation_first p d lent r h n q e w = go (clear_before _ r h e) w
@@ -589,6 +588,6 @@ evaluation_first p d lent r h n q e w = go (clear_before _ r h e) w
 
 -- and by checking
 pub plan_first :
-    (p : Bytes) (r : Refusal) → plan_check p ≡ Refuse r → (n q : ℕ) → Earlier (turn n q) (turn_of r) → PlanGivenWhen p n q → ⊥
+    (p : Bytes) (r : Refusal) → plan_check p ≡ Err r → (n q : ℕ) → Earlier (turn n q) (turn_of r) → PlanGivenWhen p n q → ⊥
 unfolding inputs_check ◌then◌
-plan_first p r h n q e = plan_rows_clear p [] Pass (clear_before _ r (rw (h, ◌then◌)) e)
+plan_first p r h n q e = plan_rows_clear p [] (Ok tt) (clear_before _ r (rw (h, ◌then◌)) e)

@@ -6,12 +6,12 @@ use native.Mathlib.Nat.{le_refl, suc-mul, mul-le-mul_right}
 use native.Mathlib.Decide.{le_ind}
 use native.Mathlib.Omega.{arith}
 use lib.ListN.{length}
+use Rattle.std.specs.Prelude.{Ok}
 use Rattle.model.specs.Tests.{Is, non, ◌=?◌}
 use Rattle.model.specs.Bytes.{Bytes, byte, boundary}
 use Rattle.model.specs.Partitions.{equal_start, PairwiseDisjoint, Covering}
 use Rattle.model.specs.Layout.{Plan, region_count, map_count, supplied_count, source, target, totality, supplied_region, supplied_flags}
 use Rattle.model.specs.DataSets.{DataSet, data_of, NONE, pieces, size, entry_start, entry, low, past, maps_to, piece_bytes, member_start, supplied, entry_fits, well_framed, data_check}
-use Rattle.model.specs.declared.Outcome.TheVariants.{Pass}
 use Rattle.model.proofs.Tests.{both, pair, split, fails, same, less, less!, most, most!, every_at, pick_true, pick-false}
 use Rattle.model.proofs.Outcomes.{then_pass, require_pass}
 use Rattle.model.proofs.DataAgrees.{frame_fits, entry_fits_lem, data_fits}
@@ -84,7 +84,7 @@ module _ (P : Plan) (D : DataSet) (k : ℕ) where
   supplied_bits i e h = (less (both h).0, less (both (both h).1).0)
 
 module _ (P : Plan) (d : Bytes) where
-  pub data_laid_out : data_check P d ≡ Pass → DataLaidOut d
+  pub data_laid_out : data_check P d ≡ Ok tt → DataLaidOut d
   unfolding data_check well_framed
   data_laid_out h =
       let (some, h) = both (require_pass _ _ (then_pass _ _ h).0) in
@@ -97,7 +97,7 @@ module _ (P : Plan) (d : Bytes) where
         nothing_after = same (both h).0;
       }
 
-  pub fit : data_check P d ≡ Pass → Fit P (data_of d)
+  pub fit : data_check P d ≡ Ok tt → Fit P (data_of d)
   unfolding well_framed
   fit h =
       let F = (data_fits P d).0 h in

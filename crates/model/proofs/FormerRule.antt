@@ -5,9 +5,11 @@ use mathlib.Core.Path.{◌≡◌, refl, sym, ap, ◌∙◌}
 use mathlib.Core.Logic.{◌⊎◌, inl, inr}
 use mathlib.Core.Bool.{Bool}
 use native.Mathlib.Omega.{arith}
+use Rattle.std.specs.Prelude.{Ok, Err}
+use Rattle.model.specs.declared.Acceptance.{Acceptance}
 use Rattle.model.specs.Tests.{Is, ◌and◌, ◌or◌, non, ◌=?◌, every}
 use Rattle.model.specs.Bytes.{Bytes}
-use Rattle.model.specs.Outcomes.{require, ◌then◌, scan, conclude}
+use Rattle.model.specs.Outcomes.{require, ◌then◌, scan, conclude, Outcome, Answer}
 use Rattle.model.specs.Layout.{Plan, plan_of, layout_check, statement_count, statement_kind, statement_c}
 use Rattle.model.specs.Statements.{opens, operand_region}
 use Rattle.model.specs.Parallel.{reads, writes, reduces, uncentered, access_of_loop, same_target, conflicts, parallelizable, loop_check}
@@ -17,12 +19,8 @@ use Rattle.model.specs.LoopRelations.{VariableRegion, AccessThrough}
 use Rattle.model.specs.PlainPlan.{ParallelizableLoop, WellFormed, Licensed, Concluded}
 use Rattle.model.specs.Promises.{Accepts}
 use Rattle.model.specs.declared.Refusal.TheVariants.{NotParallelizable}
-use Rattle.model.specs.declared.Outcome.{Outcome}
-use Rattle.model.specs.declared.Outcome.TheVariants.{Pass, Refuse}
-use Rattle.model.specs.declared.Answer.{Answer}
-use Rattle.model.specs.declared.Answer.TheVariants.{Accepted, Refused}
 use Rattle.model.proofs.Tests.{both, pair, lacks, refuted, implied, implies, every_at, every_of}
-use Rattle.model.proofs.Outcomes.{require_pass, required, require_refuse, scan_pass, passes_scan, scan_refuse, conclude_accepted}
+use Rattle.model.proofs.Outcomes.{require_pass, required, require_refuse, scan_pass, passes_scan, scan_refuse, conclude_ok}
 use Rattle.model.proofs.TargetRule.{ParallelizableBy, finer, by_target}
 use Rattle.model.proofs.Demand2.{demand_2}
 
@@ -45,11 +43,11 @@ ParallelizableByRegion p =
     (f : ℕ) → f < statement_count (plan_of p) → statement_kind (plan_of p) f ≡ 0 → ParallelizableBy (plan_of p) (SameRegion (plan_of p)) f
 
 -- a plan of which demand 2 held with the former clause is accepted, with the counts of its records
-pub still_accepted : (p : Bytes) → WellFormed p × ParallelizableByRegion p × Licensed p × Concluded p → verdict p ≡ accepted (plan_of p)
+pub still_accepted : (p : Bytes) → WellFormed p × ParallelizableByRegion p × Licensed p × Concluded p → verdict p ≡ Ok (accepted (plan_of p))
 unfolding verdict
 still_accepted p (formed, loops, licensed, concluded) =
-    let (a, b, c, e) = (demand_2 p).1 (formed, λ f lt k. by_region (plan_of p) (loops f lt k), licensed, concluded) in
-    e ∙ sym (conclude_accepted _ _ a b c e).1
+    let (a, e) = (demand_2 p).1 (formed, λ f lt k. by_region (plan_of p) (loops f lt k), licensed, concluded) in
+    e ∙ ap Ok (sym (conclude_ok _ _ a e).1)
 
 -- the same of the verdict: its test of a loop, and its checks with that test, over any test for accesses of one target
 module _ (P : Plan) (same : ℕ → ℕ → Bool) where
@@ -93,12 +91,12 @@ former_verdict = verdict_by same_region
 
 -- two outcomes are one, or the former is refusal 8
 abbrev OneOrNotParallelizable : Outcome → Outcome → Type 0
-OneOrNotParallelizable now former = (now ≡ former) ⊎ ((f : ℕ) × (former ≡ Refuse (NotParallelizable f)))
+OneOrNotParallelizable now former = (now ≡ former) ⊎ ((f : ℕ) × (former ≡ Err (NotParallelizable f)))
 
 one_after : {now former : Outcome} (first : Outcome) → OneOrNotParallelizable now former → OneOrNotParallelizable (first then now) (first then former)
 unfolding ◌then◌
-one_after Pass w = w
-one_after (Refuse r) w = inl refl
+one_after (Ok _) w = w
+one_after (Err r) w = inl refl
 
 module _ (P : Plan) where
   tested_by_region : (f : ℕ) → Is (parallelizable_by P (same_region P) f) → Is (parallelizable_by P (same_target P) f)
@@ -113,18 +111,18 @@ module _ (P : Plan) where
   unfolding ◌then◌
   loops_one rest = go (loops_check_by P (same_region P)) refl
     where
-      passes : loops_check_by P (same_region P) ≡ Pass → loops_check_by P (same_target P) ≡ Pass
+      passes : loops_check_by P (same_region P) ≡ Ok tt → loops_check_by P (same_target P) ≡ Ok tt
       passes h =
           passes_scan _ _ (λ f lt.
           required _ _ (implies (λ o. tested_by_region f (implied (require_pass _ _ (scan_pass _ _ h f lt)) o))))
 
       go : (former : Outcome) → loops_check_by P (same_region P) ≡ former →
           OneOrNotParallelizable (loops_check_by P (same_target P) then rest) (former then rest)
-      go Pass h = inl (rw (passes h) refl)
-      go (Refuse r) h = let w = scan_refuse _ _ r h in inr (w.at, ap Refuse (sym (require_refuse _ _ r w.refuses).1))
+      go (Ok _) h = inl (rw (passes h) refl)
+      go (Err r) h = let w = scan_refuse _ _ r h in inr (w.at, ap Err (sym (require_refuse _ _ r w.refuses).1))
 
 -- only refusal 8 moves
-pub only_refusal_8_moves : (p : Bytes) → (verdict p ≡ former_verdict p) ⊎ ((f : ℕ) × (former_verdict p ≡ Refused (NotParallelizable f)))
+pub only_refusal_8_moves : (p : Bytes) → (verdict p ≡ former_verdict p) ⊎ ((f : ℕ) × (former_verdict p ≡ Err (NotParallelizable f)))
 unfolding conclude
 only_refusal_8_moves p =
     let checks : OneOrNotParallelizable (plan_check_by same_target p) (plan_check_by same_region p) =
@@ -139,8 +137,8 @@ pub nothing_lost : (p : Bytes) → Accepts (former_verdict p) → verdict p ≡ 
 nothing_lost p a =
     elim (only_refusal_8_moves p) [
       | inl e ↦ e
-      | inr e ↦ absurd (accepted_not_refused (sym a.3 ∙ e.1))
+      | inr e ↦ absurd (accepted_not_refused (sym a.1 ∙ e.1))
     ]
   where
-    accepted_not_refused : {a b c f : ℕ} → Accepted a b c ≡ Refused (NotParallelizable f) → ⊥
+    accepted_not_refused : {a : Acceptance} {f : ℕ} → ◌≡◌ {A = Answer} (Ok a) (Err (NotParallelizable f)) → ⊥
     accepted_not_refused h = let z : ◌≡◌ {A = ℕ} 0 1 = cc in absurd (omega arith)

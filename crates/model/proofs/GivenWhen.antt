@@ -2,6 +2,7 @@
 use Prim.Native.Nat.{ℕ}
 use mathlib.Core.Path.{◌≡◌, refl}
 use native.Mathlib.Omega.{arith}
+use Rattle.std.specs.Prelude.{Err}
 use Rattle.model.specs.Bytes.{Bytes}
 use Rattle.model.specs.Layout.{plan_of}
 use Rattle.model.specs.Verdict.{records_check, plan_check}
@@ -9,7 +10,6 @@ use Rattle.model.specs.Evaluation.{inputs_check, evaluation_check}
 use Rattle.model.specs.Answers.{refusal_report}
 use Rattle.model.specs.GivenWhen.{EvaluationGivenWhen, of_plan, of_data, of_output, output_too_small}
 use Rattle.model.specs.declared.Refusal.{Refusal}
-use Rattle.model.specs.declared.Outcome.TheVariants.{Refuse}
 use Rattle.model.proofs.Tests.{lacks}
 use Rattle.model.proofs.Outcomes.{then_cases, require_refuse}
 use Rattle.model.proofs.LayoutAgrees.{PlanGiven, layout_refuses, beyond}
@@ -18,7 +18,7 @@ use Rattle.model.proofs.Demand2Loops.{statements_pass, assignments_pass, stateme
 use Rattle.model.proofs.DataAgrees.{data_refuses}
 
 module _ (p : Bytes) (r : Refusal) where
-  pub plan_refuses : plan_check p ≡ Refuse r → PlanGiven p r
+  pub plan_refuses : plan_check p ≡ Err r → PlanGiven p r
   unfolding plan_check records_check
   plan_refuses h =
       then_cases _ _ r h (layout_refuses p r) λ layout h.
@@ -37,7 +37,7 @@ module _ (p : Bytes) (r : Refusal) where
       needs_refuse p r S N A (steps_plainly (plan_of p) steps).formed h
 
   pub evaluation_refuses :
-      (d : Bytes) (lent : ℕ) → evaluation_check p d lent ≡ Refuse r →
+      (d : Bytes) (lent : ℕ) → evaluation_check p d lent ≡ Err r →
       EvaluationGivenWhen p d lent (refusal_report r).number (refusal_report r).place
   unfolding evaluation_check inputs_check
   evaluation_refuses d lent h =

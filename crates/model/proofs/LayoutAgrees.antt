@@ -6,6 +6,7 @@ use mathlib.Core.Bool.{Bool}
 use native.Mathlib.Nat.{div-add-mod'}
 use native.Mathlib.Omega.{arith}
 use lib.ListN.{length}
+use Rattle.std.specs.Prelude.{Ok, Err}
 use Rattle.model.specs.Tests.{Is, ◌and◌, ◌=?◌, ◌≤?◌}
 use Rattle.model.specs.Bytes.{Bytes, byte, u16, boundary, body}
 use Rattle.model.specs.Layout.{Plan, shapes, shape_of, section_check, layout_check, region_count, fields, source, target, totality, supplied_region, supplied_flags}
@@ -15,7 +16,6 @@ use Rattle.model.specs.Declarations.{region_check, map_check, supplied_check}
 use Rattle.model.specs.Answers.{refusal_report}
 use Rattle.model.specs.GivenWhen.{PlanGivenWhen, empty, truncated, unknown_edition, trailing_bytes, invalid_length}
 use Rattle.model.specs.declared.Refusal.{Refusal}
-use Rattle.model.specs.declared.Outcome.TheVariants.{Pass, Refuse}
 use Rattle.model.proofs.Accepted.{LaidOut, begins_inside, length-body, section_pass, laid_out_lem, layout_pass}
 use Rattle.model.proofs.Outcomes.{then_cases, require_pass, required, require_refuse, scan_refuse}
 
@@ -94,11 +94,11 @@ well_formed_layout p R =
 whole_iff : (a b : ℕ) → (a ≡ a / b * b) ↔ (a % b ≡ 0)
 whole_iff a b = (λ z. omega (arith, div-add-mod' a b), λ z. omega (arith, div-add-mod' a b))
 
-pub layout_read : (p : Bytes) → (layout_check p ≡ Pass) ↔ LayoutRead p
+pub layout_read : (p : Bytes) → (layout_check p ≡ Ok tt) ↔ LayoutRead p
 unfolding measured
 layout_read p = (plainly, λ l. layout_pass p (by_section l))
   where
-    plainly : layout_check p ≡ Pass → LayoutRead p
+    plainly : layout_check p ≡ Ok tt → LayoutRead p
     plainly h =
         let L = laid_out_lem p h in
         record {
@@ -140,7 +140,7 @@ PlanGiven p r = PlanGivenWhen p (refusal_report r).number (refusal_report r).pla
 
 -- where the layout's checks refuse
 module _ (p : Bytes) (r : Refusal) where
-  section_refuses : (n : ℕ) → n < 7 → boundary p n ≤ length p → section_check p n ≡ Refuse r → PlanGiven p r
+  section_refuses : (n : ℕ) → n < 7 → boundary p n ≤ length p → section_check p n ≡ Err r → PlanGiven p r
   unfolding section_check measured
   section_refuses n lt start h =
       then_cases _ _ r h
@@ -157,12 +157,12 @@ module _ (p : Bytes) (r : Refusal) where
       within ends = pair (most! (begins_inside p n ends)) (most! ends)
 
   -- a section begins within the bytes, where those before it pass
-  starts : 1 ≤ length p → (n : ℕ) → ((l : ℕ) → 0 ≤ l → l < n → section_check p l ≡ Pass) → n < 7 → boundary p n ≤ length p
+  starts : 1 ≤ length p → (n : ℕ) → ((l : ℕ) → 0 ≤ l → l < n → section_check p l ≡ Ok tt) → n < 7 → boundary p n ≤ length p
   unfolding boundary
   starts s zero b lt = s
   starts s (suc n) b lt = (section_pass p n (b n (omega arith) (omega arith))).ends_inside
 
-  pub layout_refuses : layout_check p ≡ Refuse r → PlanGiven p r
+  pub layout_refuses : layout_check p ≡ Err r → PlanGiven p r
   unfolding layout_check
   layout_refuses h =
       then_cases _ _ r h
@@ -181,13 +181,13 @@ module _ (p : Bytes) (r : Refusal) where
 
 -- sections 1 to 3: each record's check against its plain statement
 module _ (P : Plan) where
-  pub region_formed : (r : ℕ) → (region_check P r ≡ Pass) ↔ ((1 ≤ fields P r) × (fields P r ≤ 8))
+  pub region_formed : (r : ℕ) → (region_check P r ≡ Ok tt) ↔ ((1 ≤ fields P r) × (fields P r ≤ 8))
   unfolding region_check
   region_formed r =
       (λ h. let t = both (require_pass _ _ h) in (most t.0, most t.1), λ w. required _ _ (pair (most! w.0) (most! w.1)))
 
   pub map_formed :
-      (m : ℕ) → (map_check P m ≡ Pass) ↔
+      (m : ℕ) → (map_check P m ≡ Ok tt) ↔
       ((source P m < region_count P) × (target P m < region_count P) × ((totality P m ≡ 0) ⊎ (totality P m ≡ 1)))
   unfolding map_check
   map_formed m = (
@@ -204,7 +204,7 @@ module _ (P : Plan) where
       few k (inl e) = omega arith
       few k (inr e) = omega arith
 
-  pub supplied_formed : (k : ℕ) → (supplied_check P k ≡ Pass) ↔ ((supplied_region P k < region_count P) × (supplied_flags P k ≤ 3))
+  pub supplied_formed : (k : ℕ) → (supplied_check P k ≡ Ok tt) ↔ ((supplied_region P k < region_count P) × (supplied_flags P k ≤ 3))
   unfolding supplied_check
   supplied_formed k =
       (λ h. let t = both (require_pass _ _ h) in (less t.0, most t.1), λ w. required _ _ (pair (less! w.0) (most! w.1)))

@@ -36,7 +36,7 @@ P = plan_of second_loop
 -- the statements before statement n are formed
 formed : (n : ℕ) → n ≤ 5 → FormedBefore P n
 unfolding definitions
-formed n le s lt = (verdict_accepted second_loop 4 2 3 refl).0.records.statement_formed_lem s (omega arith)
+formed n le s lt = (verdict_accepted second_loop _ refl).0.records.statement_formed_lem s (omega arith)
 
 -- the READ through h and the REDUCE are of one region
 pub second_loop_by_region : ParallelizableBy P (SameRegion P) 0 → ⊥

@@ -7,10 +7,12 @@ use mathlib.Core.Logic.{inl, inr}
 use mathlib.Core.Bool.{Bool, false}
 use native.Mathlib.Nat.{mul-le-mul_right, mul-le-mul}
 use native.Mathlib.Omega.{arith}
+use Rattle.std.specs.Prelude.{Ok, Err}
+use Rattle.model.specs.declared.Charge.{Charge}
 use Rattle.model.specs.Tests.{◌=?◌}
 use Rattle.model.specs.Answers.{refusal_report, report, written_report, charge_report}
 use Rattle.model.specs.Bytes.{Bytes, u16, boundary}
-use Rattle.model.specs.Outcomes.{require, ◌then◌, scan, conclude, conclude_writing, conclude_charge}
+use Rattle.model.specs.Outcomes.{require, ◌then◌, scan, conclude, Outcome, Answer}
 use Rattle.model.specs.Layout.{Plan, plan_of, shapes, shape_of, section_check, layout_check, statement_count, source}
 use Rattle.model.specs.Statements.{statement_check}
 use Rattle.model.specs.Parallel.{loop_check}
@@ -26,13 +28,9 @@ use Rattle.model.specs.declared.Question.{Question}
 use Rattle.model.specs.Provenance.{question_check, chain_room_check, explanation_check, explanation}
 use Rattle.model.specs.declared.Transfer.{Transfer}
 use Rattle.model.specs.Transfers.{transfer_check, priced, charge_check, charge}
-use Rattle.model.specs.Packed.{TaggedValue, pack, unpack, Packing, packed_by, unpacked_by, refusal_tag, answer_tag, answer_read, answer_packing, packed, unpacked, written_tag, written_read, written_packing, charge_tag, charge_read, charge_packing}
+use Rattle.model.specs.Packed.{TaggedValue, pack, unpack, Packing, packed_by, unpacked_by, refusal_tag, answer_tag, answer_read, answer_packing, packed, unpacked, written_read, written_packing, charge_tag, charge_read, charge_packing, tag_by, acceptance_value, charge_value}
 use Rattle.model.specs.declared.Refusal.{Refusal}
-use Rattle.model.specs.declared.Outcome.{Outcome}
-use Rattle.model.specs.declared.Outcome.TheVariants.{Pass, Refuse}
-use Rattle.model.specs.declared.Answer.{Answer}
-use Rattle.model.specs.declared.Answer.TheVariants.{Accepted, Refused}
-use Rattle.model.specs.declared.Charge.TheVariants.{Charged}
+use Rattle.model.specs.declared.Acceptance.{Acceptance}
 use Rattle.model.proofs.Tests.{split, fails, refuted, same, same!, pick_true, pick-false, ◌also◌, at_each}
 use Rattle.model.proofs.Outcomes.{then_cases, then_pass, require_pass, require_refuse, scan_pass, scan_refuse}
 use Rattle.model.proofs.Answers.{no_counts, number_in_table, report_injective}
@@ -71,11 +69,11 @@ pub read_back : {A R : Type 0} (packing : Packing A R) (r : A) → Lossless pack
 read_back packing r k = ap packing.read (unpack-pack _ k.small_number k.small_value) ∙ k.same_report
 
 -- an acceptance with counts that fit 8 bits
-counts_read : (s n t : ℕ) → s < 2 ^ 8 → n < 2 ^ 8 → t < 2 ^ 8 → answer_read (answer_tag (Accepted s n t)) ≡ report (Accepted s n t)
-unfolding answer_read answer_tag
-counts_read s n t ls ln lt =
-    let value : ℕ = (answer_tag (Accepted s n t)).value in
-    let bits : (value % 2 ^ 8 ≡ s) × (value / 2 ^ 8 % 2 ^ 8 ≡ n) × (value / 2 ^ 16 % 2 ^ 8 ≡ t) = (omega arith, omega arith, omega arith) in
+counts_read : (a : Acceptance) → a.symbols < 2 ^ 8 → a.nodes < 2 ^ 8 → a.steps < 2 ^ 8 → answer_read (answer_tag (Ok a)) ≡ report (Ok a)
+unfolding answer_read tag_by acceptance_value
+counts_read a ls ln lt =
+    let value : ℕ = (answer_tag (Ok a)).value in
+    let bits : (value % 2 ^ 8 ≡ a.symbols) × (value / 2 ^ 8 % 2 ^ 8 ≡ a.nodes) × (value / 2 ^ 16 % 2 ^ 8 ≡ a.steps) = (omega arith, omega arith, omega arith) in
     pick_true _ _ _ (same! refl) ∙ rw (bits.0, bits.1, bits.2)
 
 -- a refusal is not under number 0
@@ -88,14 +86,14 @@ place_read r = pick-false _ _ _ (not_zero r) ∙ sym (no_counts r)
 
 -- answers that fit their bits
 lossless : (r : Answer) → Packable r → Lossless answer_packing r
-unfolding report answer_tag
-lossless (Accepted s n t) f =
+unfolding report tag_by acceptance_value
+lossless (Ok a) f =
     record {
       small_number = omega arith;
       small_value = omega arith;
-      same_report = counts_read s n t (omega (arith, f.few_symbols)) (omega (arith, f.few_nodes)) (omega (arith, f.few_steps));
+      same_report = counts_read a (omega (arith, f.few_symbols)) (omega (arith, f.few_nodes)) (omega (arith, f.few_steps));
     }
-lossless (Refused r) f =
+lossless (Err r) f =
     record { small_number = omega (arith, (number_in_table r).1); small_value = omega (arith, f.small_place); same_report = place_read r }
 
 -- the caller reads what the answer reports
@@ -108,12 +106,12 @@ packed_injective a b f g e = report_injective a b (sym (unpacked-packed a f) ∙
 
 -- a check whose refusal has a small place
 abbrev Near : Outcome → Type 0
-Near o = (r : Refusal) → o ≡ Refuse r → (refusal_report r).place < 2 ^ 13
+Near o = (r : Refusal) → o ≡ Err r → (refusal_report r).place < 2 ^ 13
 
 near_require : (b : Bool) (q : Refusal) → (refusal_report q).place < 2 ^ 13 → Near (require b q)
 near_require b q h r e = rw (require_refuse b q r e).1 at h
 
-near_then : (a b : Outcome) → Near a → (a ≡ Pass → Near b) → Near (a then b)
+near_then : (a b : Outcome) → Near a → (a ≡ Ok tt → Near b) → Near (a then b)
 near_then a b f g r e = then_cases a b r e (f r) (λ p. g p r)
 
 near_scan : (f : ℕ → Outcome) (n : ℕ) → ((k : ℕ) → k < n → Near (f k)) → Near (scan f 0 n)
@@ -203,9 +201,9 @@ evaluation_near p d lent =
     near_then _ _ (inputs_near p d) λ inputs. near_require _ _ (omega (arith, words_most p d (inputs_accepted p d inputs)))
 
 -- the answer after such checks
-concluded : (P : Plan) (o : Outcome) → Near o → (o ≡ Pass → Limits P) → Packable (conclude o (accepted P))
+concluded_packable : (P : Plan) (o : Outcome) → Near o → (o ≡ Ok tt → Limits P) → Packable (conclude o (accepted P))
 unfolding conclude report
-concluded P Pass near known =
+concluded_packable P (Ok _) near known =
     let L = known refl in
     record {
       small_place = omega arith;
@@ -213,7 +211,7 @@ concluded P Pass near known =
       few_nodes = L.few_nodes;
       few_steps = L.few_steps;
     }
-concluded P (Refuse r) near known =
+concluded_packable P (Err r) near known =
     let t = no_counts r in
     record {
       small_place = near r refl;
@@ -224,12 +222,12 @@ concluded P (Refuse r) near known =
 
 pub verdict_packable : (p : Bytes) → Packable (verdict p)
 unfolding verdict
-verdict_packable p = concluded (plan_of p) _ (plan_near p) λ plan. limits p (plan_accepted p plan).layout
+verdict_packable p = concluded_packable (plan_of p) _ (plan_near p) λ plan. limits p (plan_accepted p plan).layout
 
 pub evaluation_packable : (p d : Bytes) (lent : ℕ) → Packable (evaluation p d lent)
 unfolding evaluation evaluation_check
 evaluation_packable p d lent =
-    concluded (plan_of p) _ (evaluation_near p d lent) λ pass. (inputs_accepted p d (then_pass _ _ pass).0).limits
+    concluded_packable (plan_of p) _ (evaluation_near p d lent) λ pass. (inputs_accepted p d (then_pass _ _ pass).0).limits
 
 -- what a caller reads of checking and of evaluating
 pub verdict_read : (p : Bytes) → unpacked (packed (verdict p)) ≡ report (verdict p)
@@ -256,11 +254,11 @@ explanation_near p d q lentNodes lentElements =
     near_require _ _ (omega (arith, explanation_needed p d q inputs question))
 
 -- a length or a refusal's place that fits its bits
-written_lossless : (o : Outcome) (n : ℕ) → Near o → (o ≡ Pass → n ≤ 48) → Lossless written_packing (conclude_writing o n)
-unfolding conclude_writing written_report written_tag written_read
-written_lossless Pass n near few =
+written_lossless : (o : Outcome) (n : ℕ) → Near o → (o ≡ Ok tt → n ≤ 48) → Lossless written_packing (conclude o n)
+unfolding conclude written_report tag_by written_read
+written_lossless (Ok tt) n near few =
     let l = few refl in record { small_number = omega arith; small_value = omega arith; same_report = pick_true _ _ _ (same! refl) }
-written_lossless (Refuse r) n near few =
+written_lossless (Err r) n near few =
     record {
       small_number = omega (arith, (number_in_table r).1);
       small_value = omega (arith, near r refl);
@@ -285,24 +283,24 @@ charge_near p d t =
     near_then _ _ (near_require _ _ (omega arith)) λ regions. near_require _ _ (omega arith)
 
 -- a charge whose numbers fit their bits
-charge_numbers : (n c m : ℕ) → n < 2 ^ 16 → c < 2 ^ 24 → m < 2 ^ 16 → charge_read (charge_tag (Charged n c m)) ≡ charge_report (Charged n c m)
-unfolding charge_read charge_tag
-charge_numbers n c m ln lc lm =
-    let value : ℕ = (charge_tag (Charged n c m)).value in
-    let bits : (value % 2 ^ 16 ≡ n) × (value / 2 ^ 16 % 2 ^ 24 ≡ c) × (value / 2 ^ 40 % 2 ^ 16 ≡ m) = (omega arith, omega arith, omega arith) in
+charge_numbers : (c : Charge) → c.count < 2 ^ 16 → c.cents < 2 ^ 24 → c.remainder < 2 ^ 16 → charge_read (charge_tag (Ok c)) ≡ charge_report (Ok c)
+unfolding charge_read tag_by charge_value
+charge_numbers c ln lc lm =
+    let value : ℕ = (charge_tag (Ok c)).value in
+    let bits : (value % 2 ^ 16 ≡ c.count) × (value / 2 ^ 16 % 2 ^ 24 ≡ c.cents) × (value / 2 ^ 40 % 2 ^ 16 ≡ c.remainder) = (omega arith, omega arith, omega arith) in
     pick_true _ _ _ (same! refl) ∙ rw (bits.0, bits.1, bits.2)
 
-charge_lossless : (o : Outcome) (n price : ℕ) → Near o → (o ≡ Pass → (n ≤ 8192) × (price ≤ 1000000)) → Lossless charge_packing (conclude_charge o (priced n price))
-unfolding conclude_charge priced charge_report charge_tag charge_read
-charge_lossless Pass n price near few =
+charge_lossless : (o : Outcome) (n price : ℕ) → Near o → (o ≡ Ok tt → (n ≤ 8192) × (price ≤ 1000000)) → Lossless charge_packing (conclude o (priced n price))
+unfolding conclude priced charge_report tag_by charge_value charge_read
+charge_lossless (Ok tt) n price near few =
     let (ln, lp) = few refl in
     let most : n * price ≤ 8192 * 1000000 = mul-le-mul {n₂ = 8192} {m₂ = 1000000} ln lp in
     record {
       small_number = omega arith;
       small_value = omega arith;
-      same_report = charge_numbers n (n * price / 1000) (n * price % 1000) (omega arith) (omega arith) (omega arith);
+      same_report = charge_numbers _ (omega arith) (omega arith) (omega arith);
     }
-charge_lossless (Refuse r) n price near few =
+charge_lossless (Err r) n price near few =
     record {
       small_number = omega (arith, (number_in_table r).1);
       small_value = omega (arith, near r refl);

@@ -7,11 +7,11 @@ use mathlib.Core.List.{List, []}
 use native.Mathlib.Nat.{mul-le-mul_right}
 use native.Mathlib.Omega.{arith}
 use lib.ListN.{length, get_or}
+use Rattle.std.specs.Prelude.{Ok}
 use Rattle.model.specs.Bytes.{Bytes, body}
 use Rattle.model.specs.Layout.{Plan, plan_of, shapes, shape_of, layout_check, region_count, map_count, supplied_count, statement_count, node_count, assignment_count, step_count, fields, source, target, totality, supplied_region, supplied_flags, statement_kind, statement_a, statement_b, statement_c, node_kind, node_a, node_b, node_unused, assigned, step_lemma, step_x, step_y, step_p, step_q}
 use Rattle.model.specs.PlainPlan.{SectionLength, regions, maps, supplied, statements, nodes, assignments, steps}
 use Rattle.model.specs.Encoding.{concatenation, tabulate, Octets, framed_bytes, PlanRecords, plan_bodies, plan_bytes, cell, RecordsWithin, PlanWithinLimits}
-use Rattle.model.specs.declared.Outcome.TheVariants.{Pass}
 use Rattle.model.proofs.Tests.{Firsts, ◌also◌, at_each}
 use Rattle.model.proofs.Accepted.{Section, laid_out_lem}
 use Rattle.model.proofs.LayoutAgrees.{layout_read}
@@ -124,7 +124,7 @@ module _ (edition : ℕ) (R : PlanRecords) (W : PlanWithinLimits R) where
       few {width} {records = records} I small =
           (omega (arith, counted I _ refl, mul-le-mul_right width I.at_most), each_concatenation (λ n. n < 256) 0 (omega arith) records I.octets)
 
-pub layout_written : (R : PlanRecords) → PlanWithinLimits R → layout_check (plan_bytes 1 R) ≡ Pass
+pub layout_written : (R : PlanRecords) → PlanWithinLimits R → layout_check (plan_bytes 1 R) ≡ Ok tt
 layout_written R W =
     (layout_read (plan_bytes 1 R)).1
     (record {
@@ -199,7 +199,7 @@ plan_records p =
       steps = records_of 5 (body p 6);
     }
 
-module _ (p : Bytes) (octets : Octets p) (passed : layout_check p ≡ Pass) where
+module _ (p : Bytes) (octets : Octets p) (passed : layout_check p ≡ Ok tt) where
   passed_section : (n : ℕ) → n < 7 → Section p n
   passed_section = (laid_out_lem p passed).section
 
@@ -246,7 +246,7 @@ module _ (p : Bytes) (octets : Octets p) (passed : layout_check p ≡ Pass) wher
       )
 
 -- a plan's layout passes its checks exactly where the plan is some records within the limits, written
-pub plan_written : (p : Bytes) → (Octets p × (layout_check p ≡ Pass)) ↔ ((R : PlanRecords) × PlanWithinLimits R × (p ≡ plan_bytes 1 R))
+pub plan_written : (p : Bytes) → (Octets p × (layout_check p ≡ Ok tt)) ↔ ((R : PlanRecords) × PlanWithinLimits R × (p ≡ plan_bytes 1 R))
 plan_written p = (
   λ h. let w = plan_found p h.0 h.1 in (plan_records p, w.0, w.1),
   λ w. (rw w.2 (written_octets 1 w.0 w.1 (omega arith)), rw w.2 (layout_written w.0 w.1)),

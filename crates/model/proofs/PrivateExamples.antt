@@ -4,6 +4,7 @@ use Prim.Native.Nat.{ℕ}
 use mathlib.Core.Path.{◌≡◌, refl}
 use mathlib.Core.List.{List, [], ◌∷◌, ◌++◌}
 use native.Mathlib.Omega.{arith}
+use Rattle.std.specs.Prelude.{Ok}
 use Rattle.model.specs.Tests.{Is}
 use Rattle.model.specs.Bytes.{Bytes}
 use Rattle.model.specs.Answers.{report, refusal}
@@ -13,7 +14,6 @@ use Rattle.model.specs.Verdict.{verdict}
 use Rattle.model.specs.DataSets.{data_of, data_check}
 use Rattle.model.specs.Membership.{member}
 use Rattle.model.specs.Partitions.{PairwiseDisjoint}
-use Rattle.model.specs.declared.Outcome.TheVariants.{Pass}
 use Rattle.model.proofs.Computing.{definitions}
 use Rattle.model.proofs.FiledPlans.{plan}
 use Rattle.model.proofs.FiledTable.{listed, accepts, answer}
@@ -62,7 +62,7 @@ private_filing = filing (equal ++ image 0 0 ++ preimage 1 0 ++ difference 2 0 ++
 
 -- the image's pieces share element 1; 0 and 2 are private
 pub private_example :
-    (answer (report (verdict private_filing)) ≡ accepts 0 6 2) × (data_check (plan_of private_filing) mesh ≡ Pass)
+    (answer (report (verdict private_filing)) ≡ accepts 0 6 2) × (data_check (plan_of private_filing) mesh ≡ Ok tt)
     × (members private_filing 1 ≡ (0 ∷ 1 ∷ []) ∷ (1 ∷ 2 ∷ []) ∷ []) × (members private_filing 5 ≡ (0 ∷ []) ∷ (2 ∷ []) ∷ [])
 unfolding definitions
 private_example = (refl, refl, refl, refl)
@@ -70,7 +70,7 @@ private_example = (refl, refl, refl, refl)
 -- the plan is refused for its step by lemma 21, and over the mesh, which fits, the first two pieces of x hold element 1
 pub record Overlapping (p : Bytes) (x : ℕ) : Type 0 where
   pub refused : report (verdict p) ≡ refusal 10 1
-  pub fits : data_check (plan_of p) mesh ≡ Pass
+  pub fits : data_check (plan_of p) mesh ≡ Ok tt
   pub first_holds : Is (member (plan_of p) (data_of mesh) x 0 1)
   pub second_holds : Is (member (plan_of p) (data_of mesh) x 1 1)
 

@@ -4,6 +4,7 @@ use Prim.Native.Nat.{ℕ, ◌≤◌, ◌<◌}
 use mathlib.Core.Path.{◌≡◌, refl, sym, ◌∙◌}
 use mathlib.Core.Logic.{inl, inr}
 use native.Mathlib.Omega.{arith}
+use Rattle.std.specs.Prelude.{Ok, Err}
 use Rattle.model.specs.Tests.{Is, non}
 use Rattle.model.specs.Bytes.{Bytes}
 use Rattle.model.specs.Layout.{Plan, plan_of, node_count, step_count, step_lemma, step_x, step_y, step_p, step_q}
@@ -14,7 +15,6 @@ use Rattle.model.specs.PlainPlan.{NodeFormed, NodeAgrees, SameNode, StepFormed, 
 use Rattle.model.specs.GivenWhen.{RecordInvalid, RegionsDisagree, invalid_record, region_mismatch, duplicate_node_lem, unlicensed_step}
 use Rattle.model.specs.Verdict.{regions_check, maps_check, partitions_check, nodes_check, steps_check}
 use Rattle.model.specs.declared.Refusal.{Refusal}
-use Rattle.model.specs.declared.Outcome.TheVariants.{Pass, Refuse}
 use Rattle.model.proofs.Tests.{lacks, refuted, split, latest}
 use Rattle.model.proofs.Outcomes.{then_pass, passes_then, then_cases, require_pass, required, require_refuse, scan_pass, passes_scan, scan_refuse, never}
 use Rattle.model.proofs.LayoutAgrees.{PlanGiven, region_formed, map_formed, supplied_formed}
@@ -26,14 +26,14 @@ pub upto : {Q : ℕ → Type 0} (n : ℕ) → ((i : ℕ) → i < n → Q i) → 
 upto n below here i le = elim (latest i n (omega arith)) [ inl e ↦ rw e here | inr l ↦ below i l ]
 
 module _ (P : Plan) where
-  pub node_passes : (j : ℕ) → node_check P j ≡ Pass → Is (node_formed P j) × Is (node_agrees P j) × Is (non (duplicate_node P j))
+  pub node_passes : (j : ℕ) → node_check P j ≡ Ok tt → Is (node_formed P j) × Is (node_agrees P j) × Is (non (duplicate_node P j))
   unfolding node_check
   node_passes j h =
       let h1 = then_pass _ _ h in
       let h2 = then_pass _ _ h1.1 in
       (require_pass _ _ h1.0, require_pass _ _ h2.0, require_pass _ _ h2.1)
 
-  pub step_passes : (t : ℕ) → step_check P t ≡ Pass → Is (step_formed P t) × Is (step_licensed P t)
+  pub step_passes : (t : ℕ) → step_check P t ≡ Ok tt → Is (step_formed P t) × Is (step_licensed P t)
   unfolding step_check
   step_passes t h = let h1 = then_pass _ _ h in (require_pass _ _ h1.0, require_pass _ _ h1.1)
 
@@ -42,7 +42,7 @@ module _ (P : Plan) where
     pub each : (j : ℕ) → j < node_count P → NodeFormed P j × NodeAgrees P j
     pub differ : (j k : ℕ) → j < node_count P → k < j → SameNode P k j → ⊥
 
-  pub nodes_plainly : nodes_check P ≡ Pass → NodesRead
+  pub nodes_plainly : nodes_check P ≡ Ok tt → NodesRead
   nodes_plainly h =
       let formed : (j : ℕ) → j < node_count P → NodeFormed P j = λ j lt. (node_formed_lem P j).0 (node_passes j (scan_pass _ _ h j lt)).0 in
       record {
@@ -50,7 +50,7 @@ module _ (P : Plan) where
         differ = λ j k lt lk s. lacks (node_passes j (scan_pass _ _ h j lt)).2 ((duplicate-agrees P j).1 (k, lk, s));
       }
 
-  pub passes_nodes : NodesRead → nodes_check P ≡ Pass
+  pub passes_nodes : NodesRead → nodes_check P ≡ Ok tt
   unfolding node_check
   passes_nodes r =
       passes_scan _ _ (λ j lt.
@@ -63,7 +63,7 @@ module _ (P : Plan) where
     pub formed : (t : ℕ) → t < step_count P → StepFormed P t
     pub licensed : (t : ℕ) → t < step_count P → Licence P (step_lemma P t) (step_x P t) (step_y P t) (step_p P t) (step_q P t)
 
-  pub steps_plainly : steps_check P ≡ Pass → StepsRead
+  pub steps_plainly : steps_check P ≡ Ok tt → StepsRead
   steps_plainly h =
       let test : (t : ℕ) → t < step_count P → Is (step_formed P t) = λ t lt. (step_passes t (scan_pass _ _ h t lt)).0 in
       record {
@@ -71,7 +71,7 @@ module _ (P : Plan) where
         licensed = λ t lt. (step_licence P t (λ i le. test i (omega arith))).0 (step_passes t (scan_pass _ _ h t lt)).1;
       }
 
-  pub passes_steps : StepsRead → steps_check P ≡ Pass
+  pub passes_steps : StepsRead → steps_check P ≡ Ok tt
   unfolding step_check
   passes_steps r =
       let test : (t : ℕ) → t < step_count P → Is (step_formed P t) = λ t lt. (step_formed_lem P t).1 (r.formed t lt) in
@@ -80,7 +80,7 @@ module _ (P : Plan) where
 
 -- where a check of these sections refuses
 module _ (p : Bytes) (r : Refusal) where
-  pub regions_refuse : regions_check (plan_of p) ≡ Refuse r → PlanGiven p r
+  pub regions_refuse : regions_check (plan_of p) ≡ Err r → PlanGiven p r
   unfolding region_check
   regions_refuse h =
       let w = scan_refuse _ _ r h in
@@ -88,7 +88,7 @@ module _ (p : Bytes) (r : Refusal) where
       (invalid_record refl
       (RecordInvalid.in_regions refl (omega (arith, w.inside)) (λ s. never (sym w.refuses ∙ (region_formed (plan_of p) w.at).1 s))))
 
-  pub maps_refuse : maps_check (plan_of p) ≡ Refuse r → PlanGiven p r
+  pub maps_refuse : maps_check (plan_of p) ≡ Err r → PlanGiven p r
   unfolding map_check
   maps_refuse h =
       let w = scan_refuse _ _ r h in
@@ -96,7 +96,7 @@ module _ (p : Bytes) (r : Refusal) where
       (invalid_record refl
       (RecordInvalid.in_maps refl (omega (arith, w.inside)) (λ s. never (sym w.refuses ∙ (map_formed (plan_of p) w.at).1 s))))
 
-  pub supplied_refuse : partitions_check (plan_of p) ≡ Refuse r → PlanGiven p r
+  pub supplied_refuse : partitions_check (plan_of p) ≡ Err r → PlanGiven p r
   unfolding supplied_check
   supplied_refuse h =
       let w = scan_refuse _ _ r h in
@@ -104,7 +104,7 @@ module _ (p : Bytes) (r : Refusal) where
       (invalid_record refl
       (RecordInvalid.in_supplied refl (omega (arith, w.inside)) (λ s. never (sym w.refuses ∙ (supplied_formed (plan_of p) w.at).1 s))))
 
-  pub nodes_refuse : nodes_check (plan_of p) ≡ Refuse r → PlanGiven p r
+  pub nodes_refuse : nodes_check (plan_of p) ≡ Err r → PlanGiven p r
   unfolding node_check
   nodes_refuse h =
       let w = scan_refuse _ _ r h in
@@ -124,7 +124,7 @@ module _ (p : Bytes) (r : Refusal) where
         | inr n ↦ absurd (lacks f.0 n)
       ])))
 
-  pub steps_refuse : steps_check (plan_of p) ≡ Refuse r → PlanGiven p r
+  pub steps_refuse : steps_check (plan_of p) ≡ Err r → PlanGiven p r
   unfolding step_check
   steps_refuse h =
       let w = scan_refuse _ _ r h in

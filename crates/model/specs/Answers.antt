@@ -1,15 +1,10 @@
 -- "What comes out": number and place of a refusal, and the counts of an acceptance.
-use Rattle.std.specs.Prelude.{ℕ}
+use Rattle.std.specs.Prelude.{ℕ, Ok, Err}
+use Rattle.model.specs.Outcomes.{Answer, Written, Charged}
 use Rattle.model.specs.declared.Refusal.{Refusal}
 use Rattle.model.specs.declared.Refusal.TheVariants.{Truncated, UnknownEdition, TrailingBytes, InvalidLength, InvalidRecord, RegionMismatch, DuplicateNode, NotParallelizable, AssignmentCount, UnlicensedStep, UnmetNeed, InvalidData, InvalidEntry, InvalidPartition, OutputTooSmall, NotFound, InvalidCharge}
-use Rattle.model.specs.declared.Answer.{Answer}
-use Rattle.model.specs.declared.Answer.TheVariants.{Accepted, Refused}
 use Rattle.model.specs.declared.Report.{Report}
-use Rattle.model.specs.declared.Written.{Written}
-use Rattle.model.specs.declared.Written.TheVariants as written
 use Rattle.model.specs.declared.WrittenReport.{WrittenReport}
-use Rattle.model.specs.declared.Charge.{Charge}
-use Rattle.model.specs.declared.Charge.TheVariants as charge
 use Rattle.model.specs.declared.ChargeReport.{ChargeReport}
 
 -- "Refusal carries number and place, counts 0"
@@ -38,16 +33,16 @@ refusal_report (InvalidCharge p) = refusal 17 p
 
 -- what an answer tells: "Acceptance carries the numbers of symbols, nodes and steps", under number 0
 unfoldable pub report : Answer → Report
-report (Accepted symbols nodes steps) = record { number = 0; place = 0; symbols = symbols; nodes = nodes; steps = steps }
-report (Refused r) = refusal_report r
+report (Ok a) = record { number = 0; place = 0; symbols = a.symbols; nodes = a.nodes; steps = a.steps }
+report (Err r) = refusal_report r
 
 -- what an answer of a writing entry point tells: "the answer is the .. length", under number 0
 unfoldable pub written_report : Written → WrittenReport
-written_report (written.Length n) = record { number = 0; place = 0; length = n }
-written_report (written.Refused r) = record { number = (refusal_report r).number; place = (refusal_report r).place; length = 0 }
+written_report (Ok n) = record { number = 0; place = 0; length = n }
+written_report (Err r) = record { number = (refusal_report r).number; place = (refusal_report r).place; length = 0 }
 
 -- what a charge tells: "The answer holds count, cents and remainder", under number 0
-unfoldable pub charge_report : Charge → ChargeReport
-charge_report (charge.Charged n cents remainder) = record { number = 0; place = 0; count = n; cents = cents; remainder = remainder }
-charge_report (charge.Refused r) =
+unfoldable pub charge_report : Charged → ChargeReport
+charge_report (Ok c) = record { number = 0; place = 0; count = c.count; cents = c.cents; remainder = c.remainder }
+charge_report (Err r) =
     record { number = (refusal_report r).number; place = (refusal_report r).place; count = 0; cents = 0; remainder = 0 }

@@ -2,10 +2,9 @@
 use Rattle.std.specs.Prelude.{ℕ, zero, suc, ◌+◌, ◌-◌, ◌*◌, ◌/◌, ◌%◌, ◌^◌, Bool, get_or, length}
 use Rattle.model.specs.Tests.{◌and◌, ◌or◌, non, any, every, pick, ◌=?◌, ◌<?◌, ◌≤?◌}
 use Rattle.model.specs.Bytes.{Bytes, byte, u16, boundary, body}
-use Rattle.model.specs.Outcomes.{require, ◌then◌, scan}
+use Rattle.model.specs.Outcomes.{require, ◌then◌, scan, Outcome}
 use Rattle.model.specs.Partitions.{Partition, Map}
 use Rattle.model.specs.Layout.{Plan, region_count, map_count, supplied_count, source, target, totality, supplied_region, supplied_flags}
-use Rattle.model.specs.declared.Outcome.{Outcome}
 use Rattle.model.specs.declared.Refusal.TheVariants.{InvalidData, InvalidEntry, InvalidPartition}
 
 -- the bodies of the four sections

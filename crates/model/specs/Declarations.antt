@@ -1,9 +1,8 @@
 -- Sections 1 to 3: the checks of regions, maps and supplied partitions.
 use Rattle.std.specs.Prelude.{ℕ, ◌+◌, ◌*◌}
 use Rattle.model.specs.Tests.{◌and◌, ◌<?◌, ◌≤?◌}
-use Rattle.model.specs.Outcomes.{require}
+use Rattle.model.specs.Outcomes.{require, Outcome}
 use Rattle.model.specs.Layout.{Plan, region_count, fields, source, target, totality, supplied_region, supplied_flags}
-use Rattle.model.specs.declared.Outcome.{Outcome}
 use Rattle.model.specs.declared.Refusal.TheVariants.{InvalidRecord}
 
 module _ (P : Plan) where

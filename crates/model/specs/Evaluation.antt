@@ -1,16 +1,13 @@
 -- "Evaluation": what evaluating answers, and the final words.
-use Rattle.std.specs.Prelude.{ℕ, ◌*◌, ◌/◌, ◌%◌, List}
+use Rattle.std.specs.Prelude.{ℕ, ◌*◌, ◌/◌, ◌%◌, List, Ok, Err}
 use Rattle.model.specs.Tests.{◌≤?◌}
 use Rattle.model.specs.Bytes.{Bytes}
-use Rattle.model.specs.Outcomes.{require, ◌then◌, conclude}
+use Rattle.model.specs.Outcomes.{require, ◌then◌, conclude, Outcome, Answer}
 use Rattle.model.specs.Layout.{Plan, plan_of, node_count}
 use Rattle.model.specs.Verdict.{plan_check, accepted}
 use Rattle.model.specs.DataSets.{DataSet, data_of, pieces, data_check}
 use Rattle.model.specs.Membership.{member}
 use Rattle.model.specs.Words.{word, store}
-use Rattle.model.specs.declared.Answer.{Answer}
-use Rattle.model.specs.declared.Answer.TheVariants.{Accepted, Refused}
-use Rattle.model.specs.declared.Outcome.{Outcome}
 use Rattle.model.specs.declared.Refusal.TheVariants.{OutputTooSmall}
 
 -- "nodes × N × 8"
@@ -47,5 +44,5 @@ filled_words P D old = store old 0 (words_needed P D) (node_word P D)
 
 -- "Refusal carries .. output words untouched"
 abbrev pub words_after : Bytes → Bytes → List ℕ → Answer → List ℕ
-words_after p d old (Accepted symbols nodes steps) = filled_words (plan_of p) (data_of d) old
-words_after p d old (Refused r) = old
+words_after p d old (Ok _) = filled_words (plan_of p) (data_of d) old
+words_after p d old (Err r) = old

@@ -2,8 +2,7 @@
 use Rattle.std.specs.Prelude.{ℕ, suc, ◌+◌, ◌*◌, ◌/◌, ◌%◌, List, [], ◌∷◌, get_or, length}
 use Rattle.model.specs.Tests.{◌and◌, ◌=?◌, ◌≤?◌}
 use Rattle.model.specs.Bytes.{Bytes, byte, u16, boundary, body}
-use Rattle.model.specs.Outcomes.{require, ◌then◌, scan}
-use Rattle.model.specs.declared.Outcome.{Outcome}
+use Rattle.model.specs.Outcomes.{require, ◌then◌, scan, Outcome}
 use Rattle.model.specs.declared.Refusal.TheVariants.{Truncated, UnknownEdition, TrailingBytes, InvalidLength}
 
 -- the bodies of the seven sections

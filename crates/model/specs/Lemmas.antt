@@ -1,10 +1,9 @@
 -- "Lemma steps": the table of 21 rows, what a step concludes, and when it is by its lemma.
 use Rattle.std.specs.Prelude.{ℕ, ◌+◌, ◌-◌, ◌*◌, List, [], ◌∷◌, Bool, true, false, get_or}
 use Rattle.model.specs.Tests.{◌and◌, ◌or◌, ◌=?◌, ◌<?◌, ◌≤?◌}
-use Rattle.model.specs.Outcomes.{require, ◌then◌}
+use Rattle.model.specs.Outcomes.{require, ◌then◌, Outcome}
 use Rattle.model.specs.Layout.{Plan, node_count, node_kind, node_a, node_b, totality, supplied_flags, step_lemma, step_x, step_y, step_p, step_q}
 use Rattle.model.specs.Nodes.{SUPPLIED, EQUAL, UNION, INTERSECTION, DIFFERENCE, IMAGE, PREIMAGE}
-use Rattle.model.specs.declared.Outcome.{Outcome}
 use Rattle.model.specs.declared.Refusal.TheVariants.{InvalidRecord, UnlicensedStep}
 use Rattle.model.specs.declared.Conclusion.{Conclusion}
 use Rattle.model.specs.declared.Conclusion.TheVariants.{Subset, Disjoint, Complete}

@@ -2,13 +2,12 @@
 use Rattle.std.specs.Prelude.{ℕ, zero, suc, ◌+◌, ◌*◌, Bool}
 use Rattle.model.specs.Tests.{◌and◌, ◌or◌, non, any, first, pick, ◌=?◌, ◌<?◌}
 use Rattle.model.specs.Recursion.{course}
-use Rattle.model.specs.Outcomes.{require, ◌then◌}
+use Rattle.model.specs.Outcomes.{require, ◌then◌, Outcome}
 use Rattle.model.specs.Layout.{Plan, node_count, node_kind, node_a, node_b, assigned, assignment_count, statement_a, statement_count, step_count}
 use Rattle.model.specs.Statements.{kind, opens, accesses, operand_definition, operand_region}
 use Rattle.model.specs.Parallel.{reduces_through_pointer}
 use Rattle.model.specs.Nodes.{IMAGE, node_region}
 use Rattle.model.specs.Lemmas.{concludes_subset, concludes_disjoint, concludes_complete}
-use Rattle.model.specs.declared.Outcome.{Outcome}
 use Rattle.model.specs.declared.Refusal.TheVariants.{InvalidRecord, RegionMismatch, AssignmentCount, UnmetNeed}
 use Rattle.model.specs.declared.StatementKind.{StatementKind}
 use Rattle.model.specs.declared.StatementKind.TheVariants.{For, Load, Call, Copy, Read, Write, Reduce, Unknown}

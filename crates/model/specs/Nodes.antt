@@ -2,9 +2,8 @@
 use Rattle.std.specs.Prelude.{ℕ, ◌+◌, ◌*◌, [], ◌∷◌, Bool, true, false, get_or}
 use Rattle.model.specs.Tests.{◌and◌, non, any, ◌=?◌, ◌<?◌}
 use Rattle.model.specs.Recursion.{course}
-use Rattle.model.specs.Outcomes.{require, ◌then◌}
+use Rattle.model.specs.Outcomes.{require, ◌then◌, Outcome}
 use Rattle.model.specs.Layout.{Plan, region_count, map_count, supplied_count, source, target, supplied_region, node_kind, node_a, node_b, node_unused}
-use Rattle.model.specs.declared.Outcome.{Outcome}
 use Rattle.model.specs.declared.Refusal.TheVariants.{InvalidRecord, RegionMismatch, DuplicateNode}
 use Rattle.model.specs.declared.NodeKind.{NodeKind}
 use Rattle.model.specs.declared.NodeKind.TheVariants.{Supplied, Equal, Union, Intersection, Difference, Image, Preimage, Unknown}

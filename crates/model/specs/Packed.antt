@@ -1,16 +1,13 @@
 -- An answer as one number of 64 bits, for callers in C and Rust, and the way they read it.
-use Rattle.std.specs.Prelude.{ℕ, ◌+◌, ◌*◌, ◌/◌, ◌%◌, ◌^◌}
+use Rattle.std.specs.Prelude.{ℕ, ◌+◌, ◌*◌, ◌/◌, ◌%◌, ◌^◌, Result, Ok, Err}
+use Rattle.model.specs.Outcomes.{Answer, Written, Charged}
 use Rattle.model.specs.Tests.{pick, ◌=?◌}
 use Rattle.model.specs.Answers.{refusal, refusal_report, report, written_report, charge_report}
 use Rattle.model.specs.declared.Refusal.{Refusal}
-use Rattle.model.specs.declared.Answer.{Answer}
-use Rattle.model.specs.declared.Answer.TheVariants.{Accepted, Refused}
-use Rattle.model.specs.declared.Report.{Report}
-use Rattle.model.specs.declared.Written.{Written}
-use Rattle.model.specs.declared.Written.TheVariants as written
-use Rattle.model.specs.declared.WrittenReport.{WrittenReport}
+use Rattle.model.specs.declared.Acceptance.{Acceptance}
 use Rattle.model.specs.declared.Charge.{Charge}
-use Rattle.model.specs.declared.Charge.TheVariants as charge
+use Rattle.model.specs.declared.Report.{Report}
+use Rattle.model.specs.declared.WrittenReport.{WrittenReport}
 use Rattle.model.specs.declared.ChargeReport.{ChargeReport}
 
 -- what stands in the bits: a number in the low 8, and the value that goes with it in the 56 above them
@@ -48,16 +45,23 @@ unpacked_by packing n = packing.read (unpack n)
 abbrev pub refusal_tag : Refusal → TaggedValue
 refusal_tag r = tagged (refusal_report r).number (refusal_report r).place
 
--- an acceptance: number 0, and the counts above it in 8 bits each
-unfoldable pub answer_tag : Answer → TaggedValue
-answer_tag (Accepted symbols nodes steps) = tagged 0 (symbols % 2 ^ 8 + nodes % 2 ^ 8 * 2 ^ 8 + steps % 2 ^ 8 * 2 ^ 16)
-answer_tag (Refused r) = refusal_tag r
+-- an answer of any type: under number 0 the value that stands for what is answered, or the refusal
+unfoldable pub tag_by : {A : Type 0} → (A → ℕ) → Result A Refusal → TaggedValue
+tag_by value (Ok a) = tagged 0 (value a)
+tag_by value (Err r) = refusal_tag r
+
+-- an acceptance: the counts in 8 bits each
+unfoldable pub acceptance_value : Acceptance → ℕ
+acceptance_value a = a.symbols % 2 ^ 8 + a.nodes % 2 ^ 8 * 2 ^ 8 + a.steps % 2 ^ 8 * 2 ^ 16
+
+abbrev pub answer_tag : Answer → TaggedValue
+answer_tag = tag_by acceptance_value
 
 -- what a caller makes of them: under number 0 the counts, under any other a refusal at the place
 unfoldable pub answer_read : TaggedValue → Report
 answer_read t =
     pick (t.number =? 0)
-    (report (Accepted (t.value % 2 ^ 8) (t.value / 2 ^ 8 % 2 ^ 8) (t.value / 2 ^ 16 % 2 ^ 8)))
+    (report (Ok (record { symbols = t.value % 2 ^ 8; nodes = t.value / 2 ^ 8 % 2 ^ 8; steps = t.value / 2 ^ 16 % 2 ^ 8 })))
     (refusal t.number t.value)
 
 -- how answers of checking and evaluating are packed
@@ -71,32 +75,33 @@ packed = packed_by answer_packing
 abbrev pub unpacked : ℕ → Report
 unpacked = unpacked_by answer_packing
 
--- what was written: number 0, and the length above it
-unfoldable pub written_tag : Written → TaggedValue
-written_tag (written.Length n) = tagged 0 n
-written_tag (written.Refused r) = refusal_tag r
+-- what was written: the length
+abbrev pub written_tag : Written → TaggedValue
+written_tag = tag_by (λ n. n)
 
 -- what a caller makes of them: under number 0 the length, under any other a refusal at the place
 unfoldable pub written_read : TaggedValue → WrittenReport
 written_read t =
-    pick (t.number =? 0) (written_report (written.Length t.value)) (record { number = t.number; place = t.value; length = 0 })
+    pick (t.number =? 0) (written_report (Ok t.value)) (record { number = t.number; place = t.value; length = 0 })
 
 -- how answers of entry points that write a list are packed
 abbrev pub written_packing : Packing Written WrittenReport
 written_packing = record { report = written_report; tag = written_tag; read = written_read }
 
--- a charge: number 0, and above it the count in 16 bits, the cents in 24 and the remainder in 16
-unfoldable pub charge_tag : Charge → TaggedValue
-charge_tag (charge.Charged n cents remainder) = tagged 0 (n % 2 ^ 16 + cents % 2 ^ 24 * 2 ^ 16 + remainder % 2 ^ 16 * 2 ^ 40)
-charge_tag (charge.Refused r) = refusal_tag r
+-- a charge: the count in 16 bits, the cents in 24 and the remainder in 16
+unfoldable pub charge_value : Charge → ℕ
+charge_value c = c.count % 2 ^ 16 + c.cents % 2 ^ 24 * 2 ^ 16 + c.remainder % 2 ^ 16 * 2 ^ 40
+
+abbrev pub charge_tag : Charged → TaggedValue
+charge_tag = tag_by charge_value
 
 -- what a caller makes of them: under number 0 the charge, under any other a refusal at the place
 unfoldable pub charge_read : TaggedValue → ChargeReport
 charge_read t =
     pick (t.number =? 0)
-    (charge_report (charge.Charged (t.value % 2 ^ 16) (t.value / 2 ^ 16 % 2 ^ 24) (t.value / 2 ^ 40 % 2 ^ 16)))
+    (charge_report (Ok (record { count = t.value % 2 ^ 16; cents = t.value / 2 ^ 16 % 2 ^ 24; remainder = t.value / 2 ^ 40 % 2 ^ 16 })))
     (record { number = t.number; place = t.value; count = 0; cents = 0; remainder = 0 })
 
 -- how charges are packed
-abbrev pub charge_packing : Packing Charge ChargeReport
+abbrev pub charge_packing : Packing Charged ChargeReport
 charge_packing = record { report = charge_report; tag = charge_tag; read = charge_read }

@@ -1,10 +1,9 @@
 -- "A loop is parallelizable when all three hold".
 use Rattle.std.specs.Prelude.{ℕ, Bool, true, false}
 use Rattle.model.specs.Tests.{◌and◌, ◌or◌, non, ◌=?◌, any, every}
-use Rattle.model.specs.Outcomes.{require}
+use Rattle.model.specs.Outcomes.{require, Outcome}
 use Rattle.model.specs.Layout.{Plan, statement_count, statement_c}
 use Rattle.model.specs.Statements.{kind, access_of, opens, accesses, loop, operand_definition, operand_region, access_field, centered}
-use Rattle.model.specs.declared.Outcome.{Outcome}
 use Rattle.model.specs.declared.Refusal.TheVariants.{NotParallelizable}
 use Rattle.model.specs.declared.Access.{Access}
 use Rattle.model.specs.declared.Access.TheVariants.{Nothing, Reads, Writes, Reduces}

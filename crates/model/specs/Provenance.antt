@@ -2,7 +2,7 @@
 use Rattle.std.specs.Prelude.{ℕ, zero, suc, ◌+◌, Bool, true, false, List}
 use Rattle.model.specs.Tests.{◌and◌, pick, first, ◌<?◌, ◌≤?◌}
 use Rattle.model.specs.Bytes.{Bytes}
-use Rattle.model.specs.Outcomes.{require, ◌then◌, conclude_writing}
+use Rattle.model.specs.Outcomes.{require, ◌then◌, conclude, Outcome, Written}
 use Rattle.model.specs.Layout.{Plan, plan_of, node_count, source, target, node_a, node_b}
 use Rattle.model.specs.Nodes.{node_kind_at, node_region}
 use Rattle.model.specs.DataSets.{DataSet, data_of, pieces, size, maps_to}
@@ -11,9 +11,7 @@ use Rattle.model.specs.Words.{list_after}
 use Rattle.model.specs.Evaluation.{inputs_check}
 use Rattle.model.specs.declared.NodeKind.{NodeKind}
 use Rattle.model.specs.declared.NodeKind.TheVariants.{Supplied, Equal, Union, Intersection, Difference, Image, Preimage, Unknown}
-use Rattle.model.specs.declared.Outcome.{Outcome}
 use Rattle.model.specs.declared.Refusal.TheVariants.{OutputTooSmall, NotFound}
-use Rattle.model.specs.declared.Written.{Written}
 use Rattle.model.specs.declared.Question.{Question}
 use Rattle.model.specs.declared.Pair.{Pair}
 
@@ -109,7 +107,7 @@ module _ (p d : Bytes) (q : Question) where
   -- what explaining answers, where two slices of these lengths are lent: "the answer is the chain's length"
   unfoldable pub explanation : ℕ → ℕ → Written
   explanation lentNodes lentElements =
-      conclude_writing (explanation_check lentNodes lentElements) (pairs_needed (plan_of p) (data_of d) q)
+      conclude (explanation_check lentNodes lentElements) (pairs_needed (plan_of p) (data_of d) q)
 
   -- "a chain of (node, element) pairs into two lent u16 slices"
   abbrev pub nodes_after : List ℕ → Written → List ℕ

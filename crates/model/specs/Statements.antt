@@ -2,9 +2,8 @@
 use Rattle.std.specs.Prelude.{ℕ, zero, suc, ◌+◌, ◌*◌, [], ◌∷◌, Bool, true, false, get_or}
 use Rattle.model.specs.Tests.{◌and◌, ◌or◌, ◌=?◌, ◌<?◌, pick}
 use Rattle.model.specs.Recursion.{course}
-use Rattle.model.specs.Outcomes.{require, ◌then◌}
+use Rattle.model.specs.Outcomes.{require, ◌then◌, Outcome}
 use Rattle.model.specs.Layout.{Plan, region_count, map_count, fields, source, target, statement_kind, statement_a, statement_b, statement_c}
-use Rattle.model.specs.declared.Outcome.{Outcome}
 use Rattle.model.specs.declared.Refusal.TheVariants.{InvalidRecord, RegionMismatch}
 use Rattle.model.specs.declared.StatementKind.{StatementKind}
 use Rattle.model.specs.declared.StatementKind.TheVariants.{For, Load, Call, Copy, Read, Write, Reduce, Unknown}

@@ -2,7 +2,7 @@
 use Rattle.std.specs.Prelude.{ℕ, ◌+◌, ◌*◌, ◌/◌, ◌%◌, Bool, List}
 use Rattle.model.specs.Tests.{◌and◌, non, ◌=?◌, ◌<?◌, ◌≤?◌}
 use Rattle.model.specs.Bytes.{Bytes}
-use Rattle.model.specs.Outcomes.{require, ◌then◌, conclude_charge}
+use Rattle.model.specs.Outcomes.{require, ◌then◌, conclude, Outcome, Charged}
 use Rattle.model.specs.Layout.{Plan, plan_of, node_count}
 use Rattle.model.specs.Nodes.{node_region}
 use Rattle.model.specs.DataSets.{DataSet, data_of, pieces, size}
@@ -10,10 +10,8 @@ use Rattle.model.specs.Membership.{member}
 use Rattle.model.specs.Counting.{count, sum, ones_lacking}
 use Rattle.model.specs.Evaluation.{inputs_check}
 use Rattle.model.specs.declared.Transfer.{Transfer}
-use Rattle.model.specs.declared.Outcome.{Outcome}
 use Rattle.model.specs.declared.Refusal.TheVariants.{InvalidCharge}
 use Rattle.model.specs.declared.Charge.{Charge}
-use Rattle.model.specs.declared.Charge.TheVariants.{Charged}
 
 -- these two nodes at this price
 abbrev pub transferring : ℕ → ℕ → ℕ → Transfer
@@ -45,7 +43,7 @@ transfer_check P t =
 
 -- "count times price, divided by 1,000: whole cents, and the exact remainder"
 unfoldable pub priced : ℕ → ℕ → Charge
-priced n price = Charged n (n * price / 1000) (n * price % 1000)
+priced n price = record { count = n; cents = n * price / 1000; remainder = n * price % 1000 }
 
 module _ (p d : Bytes) (t : Transfer) where
   -- "after 14"
@@ -53,5 +51,5 @@ module _ (p d : Bytes) (t : Transfer) where
   charge_check = inputs_check p d then transfer_check (plan_of p) t
 
   -- what charging answers
-  unfoldable pub charge : Charge
-  charge = conclude_charge charge_check (priced (transfer_count (plan_of p) (data_of d) t) t.price)
+  unfoldable pub charge : Charged
+  charge = conclude charge_check (priced (transfer_count (plan_of p) (data_of d) t) t.price)

@@ -1,7 +1,8 @@
 -- Checking a plan: "Order: 1 for empty, 2; per section 1 then 4; 3; records by section, at each 5, 6, 7; 8 after section 4;
 -- 9 before section 6; at each step 5, then 10; 11 by symbol".
 use Rattle.model.specs.Bytes.{Bytes}
-use Rattle.model.specs.Outcomes.{◌then◌, scan, conclude}
+use Rattle.model.specs.Outcomes.{◌then◌, scan, conclude, Outcome, Answer}
+use Rattle.model.specs.declared.Acceptance.{Acceptance}
 use Rattle.model.specs.Layout.{Plan, plan_of, layout_check, region_count, map_count, supplied_count, statement_count, node_count, step_count}
 use Rattle.model.specs.Declarations.{region_check, map_check, supplied_check}
 use Rattle.model.specs.Statements.{statement_check}
@@ -9,9 +10,6 @@ use Rattle.model.specs.Parallel.{loop_check}
 use Rattle.model.specs.Nodes.{node_check}
 use Rattle.model.specs.Needs.{symbol_count, assignment_count_check, assignment_check, need_check}
 use Rattle.model.specs.Lemmas.{step_check}
-use Rattle.model.specs.declared.Answer.{Answer}
-use Rattle.model.specs.declared.Answer.TheVariants.{Accepted}
-use Rattle.model.specs.declared.Outcome.{Outcome}
 
 module _ (P : Plan) where
   -- the records of each section, and the loops
@@ -53,8 +51,8 @@ module _ (P : Plan) where
       then needs_check
 
   -- "Acceptance carries the numbers of symbols, nodes and steps"
-  abbrev pub accepted : Answer
-  accepted = Accepted (symbol_count P) (node_count P) (step_count P)
+  abbrev pub accepted : Acceptance
+  accepted = record { symbols = symbol_count P; nodes = node_count P; steps = step_count P }
 
 -- the layout, then the records
 unfoldable pub plan_check : Bytes → Outcome

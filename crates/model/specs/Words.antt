@@ -1,8 +1,7 @@
 -- Sets of elements as 64-bit words: "element e is bit e mod 64 (value 2 to that power) of word e div 64".
-use Rattle.std.specs.Prelude.{ℕ, zero, suc, ◌+◌, ◌*◌, ◌/◌, ◌%◌, ◌^◌, Bool, true, false, List, get_or, set}
+use Rattle.std.specs.Prelude.{ℕ, zero, suc, ◌+◌, ◌*◌, ◌/◌, ◌%◌, ◌^◌, Bool, true, false, List, get_or, set, Ok, Err}
+use Rattle.model.specs.Outcomes.{Written}
 use Rattle.model.specs.Tests.{◌=?◌}
-use Rattle.model.specs.declared.Written.{Written}
-use Rattle.model.specs.declared.Written.TheVariants.{Length, Refused}
 
 -- bit b of the number w
 unfoldable pub bit : ℕ → ℕ → Bool
@@ -33,5 +32,5 @@ store words at (suc n) value = set (store words at n value) (at + n) (value n)
 
 -- a lent list after an answer: the values up to the length written, the rest as before; "a refusal changes none of it"
 unfoldable pub list_after : (ℕ → ℕ) → List ℕ → Written → List ℕ
-list_after value old (Length n) = store old 0 n value
-list_after value old (Refused r) = old
+list_after value old (Ok n) = store old 0 n value
+list_after value old (Err r) = old

@@ -1,8 +1,11 @@
 // The types that the definitions in specs/ share with the code of the other crates.
 #![tactic(auto)]
 
+mod kinds;
+mod reports;
+
 // Why a plan or a data set is refused, and at which place. Behind each: number and word of the format paper.
-#[derive(Clone, Copy)]
+#[derive(Clone, Copy, Debug, PartialEq, Eq)]
 pub enum Refusal {
     Truncated(usize), // 1 Short: the section, 0 for no bytes
     UnknownEdition, // 2 Edition: place 0
@@ -23,36 +26,24 @@ pub enum Refusal {
     InvalidCharge(usize), // 17 Unpriced: 1 a node does not exist, 2 the two differ in region, 3 the price is too high
 }
 
-#[derive(Clone, Copy)]
-pub enum Answer {
-    Accepted {
-        symbols: usize,
-        nodes: usize,
-        steps: usize,
-    },
-    Refused(Refusal),
-}
-
-// What an entry point that writes a list says: how long the list is.
-#[derive(Clone, Copy)]
-pub enum Written {
-    Length(usize),
-    Refused(Refusal),
+// What an acceptance carries: "the numbers of symbols, nodes and steps".
+#[derive(Clone, Copy, Debug, PartialEq, Eq)]
+pub struct Acceptance {
+    pub symbols: usize,
+    pub nodes: usize,
+    pub steps: usize,
 }
 
 // What charging says: how many elements are fetched, and their price in whole cents and thousandths of a cent.
-#[derive(Clone, Copy)]
-pub enum Charge {
-    Charged {
-        count: usize,
-        cents: usize,
-        remainder: usize,
-    },
-    Refused(Refusal),
+#[derive(Clone, Copy, Debug, PartialEq, Eq)]
+pub struct Charge {
+    pub count: usize,
+    pub cents: usize,
+    pub remainder: usize,
 }
 
 // What an answer tells: number and place of a refusal, 0 and 0 on acceptance; the counts of an acceptance, 0 on refusal.
-#[derive(Clone, Copy)]
+#[derive(Clone, Copy, Debug, PartialEq, Eq)]
 pub struct Report {
     pub number: usize,
     pub place: usize,
@@ -62,7 +53,7 @@ pub struct Report {
 }
 
 // What such an answer tells: number and place of a refusal, 0 and 0 where a list was written; its length, 0 on refusal.
-#[derive(Clone, Copy)]
+#[derive(Clone, Copy, Debug, PartialEq, Eq)]
 pub struct WrittenReport {
     pub number: usize,
     pub place: usize,
@@ -70,7 +61,7 @@ pub struct WrittenReport {
 }
 
 // What a charge tells: number and place of a refusal, 0 and 0 where it was made; its three numbers, 0 on refusal.
-#[derive(Clone, Copy)]
+#[derive(Clone, Copy, Debug, PartialEq, Eq)]
 pub struct ChargeReport {
     pub number: usize,
     pub place: usize,
@@ -80,7 +71,7 @@ pub struct ChargeReport {
 }
 
 // "Given node, piece and element": why does this piece of this node hold this element?
-#[derive(Clone, Copy)]
+#[derive(Clone, Copy, Debug, PartialEq, Eq)]
 pub struct Question {
     pub node: usize,
     pub piece: usize,
@@ -88,29 +79,22 @@ pub struct Question {
 }
 
 // A pair of the chain that answers it: the node's piece holds the element.
-#[derive(Clone, Copy)]
+#[derive(Clone, Copy, Debug, PartialEq, Eq, Default)]
 pub struct Pair {
     pub node: usize,
     pub element: usize,
 }
 
 // What is to be charged: "a node for what is accessed, a node for what is owned and a price in cents per thousand elements".
-#[derive(Clone, Copy)]
+#[derive(Clone, Copy, Debug, PartialEq, Eq)]
 pub struct Transfer {
     pub accessed: usize,
     pub owned: usize,
     pub price: usize,
 }
 
-// What one check of several says.
-#[derive(Clone, Copy)]
-pub enum Outcome {
-    Pass,
-    Refuse(Refusal),
-}
-
 // The kinds of a loop's statements, in the order of their bytes.
-#[derive(Clone, Copy)]
+#[derive(Clone, Copy, Debug, PartialEq, Eq)]
 pub enum StatementKind {
     For,
     Load,
@@ -123,7 +107,7 @@ pub enum StatementKind {
 }
 
 // The kinds of section 5's nodes, in the order of their bytes.
-#[derive(Clone, Copy)]
+#[derive(Clone, Copy, Debug, PartialEq, Eq)]
 pub enum NodeKind {
     Supplied,
     Equal,
@@ -136,7 +120,7 @@ pub enum NodeKind {
 }
 
 // What a statement does to the element that it touches.
-#[derive(Clone, Copy)]
+#[derive(Clone, Copy, Debug, PartialEq, Eq)]
 pub enum Access {
     Nothing,
     Reads,
@@ -145,7 +129,7 @@ pub enum Access {
 }
 
 // What a lemma step shows: SUB(x, y), DISJ(x) or COMP(x).
-#[derive(Clone, Copy)]
+#[derive(Clone, Copy, Debug, PartialEq, Eq)]
 pub enum Conclusion {
     Subset,
     Disjoint,
@@ -153,7 +137,7 @@ pub enum Conclusion {
 }
 
 // A row of the lemma table: the form of the conclusion, and which of a step's numbers are used.
-#[derive(Clone, Copy)]
+#[derive(Clone, Copy, Debug, PartialEq, Eq)]
 pub struct Lemma {
     pub conclusion: Conclusion,
     pub x: bool,

@@ -1,7 +1,8 @@
-pub mod Stages
 pub mod Symbols
-pub mod AssignedNodes
-pub mod VariableBounds
-pub mod NeedTables
+pub mod TableLaws
+pub mod Images
 pub mod Settling
+pub mod NeedTables
+pub mod NeedsMet
+pub mod Stages
 pub mod Verdict

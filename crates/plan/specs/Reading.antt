@@ -1,22 +1,18 @@
 -- What reading a plan gives.
-use Rattle.std.specs.Prelude.{ℕ, ◌<◌, ◌≡◌, get_or}
+use Rattle.std.specs.Prelude.{◌≡◌, Result, Ok, Err}
 use Rattle.model.specs.Bytes.{Bytes}
-use Rattle.model.specs.Layout.{plan_of, node_count}
-use Rattle.model.specs.Nodes.{node_region}
+use Rattle.model.specs.Layout.{plan_of}
 use Rattle.model.specs.Verdict.{verdict}
-use Rattle.model.specs.AcceptedPlans.{Facts, Limits}
-use Rattle.model.specs.declared.Answer.TheVariants.{Accepted}
-use Rattle.primitives.specs.Sections.{Delimits}
-use Rattle.plan.specs.declared.Reading.{Reading}
+use Rattle.model.specs.declared.Refusal.{Refusal}
+use Rattle.layout.specs.Sections.{plan_in}
+use Rattle.plan.specs.declared.reading.Reading.{Reading}
 
--- what is known of a plan that reading accepted: where its sections are, what each record is, how many there are, and each node's region
+-- the plan in the bytes p is accepted, and this is its reading
 pub record AcceptedReading (p : Bytes) (r : Reading) : Type 0 where
-  pub delimited : Delimits 7 p r.frame
-  pub facts : Facts (plan_of p)
-  pub limits : Limits (plan_of p)
-  pub node_regions_lem : (j : ℕ) → j < node_count (plan_of p) → get_or r.node_regions j 0 ≡ node_region (plan_of p) j
+  pub accepts : verdict p ≡ Ok r.acceptance
+  pub sections_are : plan_in r.sections ≡ plan_of p
 
--- reading the plan's bytes p gives r
-pub record ReadPromise (p : Bytes) (r : Reading) : Type 0 where
-  pub answer : r.answer ≡ verdict p
-  pub accepted : (symbols nodes steps : ℕ) → r.answer ≡ Accepted symbols nodes steps → AcceptedReading p r
+-- reading the plan's bytes p gives its reading, or the refusal
+abbrev pub ReadPromise : Bytes → Result Reading Refusal → Type 0
+ReadPromise p (Ok r) = AcceptedReading p r
+ReadPromise p (Err refusal) = verdict p ≡ Err refusal

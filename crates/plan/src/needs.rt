@@ -1,245 +1,184 @@
 // Needs: what the loops ask the steps to conclude, and the search for the steps that do.
-ghost use Rattle.std.specs.Prelude.{◌≡◌, ◌≤◌, ◌<◌, length};
-ghost use Rattle.model.specs.declared.Outcome.TheVariants.{Refuse};
+// Numbers are narrowed by `as`: the bound is proved, and `try_from` would have a case that never comes.
+ghost use Rattle.std.specs.Prelude.{◌≡◌, ◌*◌, ◌/◌, ◌≤◌, ◌<◌, ◌==◌, position};
 ghost use Rattle.model.specs.declared.Refusal.TheVariants.{UnmetNeed};
 ghost use Rattle.model.specs.Tests.{◌and◌};
-ghost use Rattle.model.specs.Layout.{Plan, plan_of, statement_count};
+ghost use Rattle.model.specs.Layout.{statement_count, step_count};
 ghost use Rattle.model.specs.Statements.{opens};
 ghost use Rattle.model.specs.Parallel.{reduces_through_pointer};
-ghost use Rattle.model.specs.Needs as Needs;
-ghost use Rattle.model.specs.Needs.{image_node};
-ghost use Rattle.loops.specs.Parallel.{Within, PointersKnown};
-ghost use Rattle.layout.specs.Frames.{Laid};
-ghost use Rattle.plan.specs.Needs.{NodesKeyed, ImageSought, bound_at, BoundSources, BoundSought, first_need, second_need, NeedSources, NeedsFit, NeedsListed, NeedsSettled, NeedTables, NeedsChecked};
+ghost use Rattle.model.specs.Needs.{symbol, image_node};
+ghost use Rattle.expressions.specs.Steps.{ConclusionKeys};
+ghost use Rattle.plan.specs.Plans.{plan_at};
+ghost use Rattle.plan.specs.Needs.{BoundSought, bound_at, first_need, second_need, NeedsListed, NeedsSettled, NeedsChecked};
 
-use crate::assignments::next_symbol;
-use crate::sections::{NODE_BYTES, STATEMENT_BYTES, STEP_BYTES, plan_section};
-use expressions::nodes::{IMAGE, node_key};
+use crate::STATEMENT_BYTES;
+use crate::assignments::{next_symbol, symbol_of};
+use crate::tables::PlanTables;
+use expressions::nodes::node_key;
 use expressions::steps::{complete_key, disjoint_key, subset_key};
 use loops::kinds::{access_of, is_access, opens_loop};
-use loops::lookup::earlier_byte;
 use loops::parallel::reduces_through_pointer;
-use loops::statements::kind_at;
-use model::{Outcome, Refusal, StatementKind};
+use model::{NodeKind, Refusal, StatementKind};
 use primitives::bytes::byte_at;
-use primitives::sections::{ASSIGNMENTS, Frame, NODES, STATEMENTS, STEPS};
+use primitives::lookup::entry_or;
 
-// A need is the key of the conclusion asked for, or this for SUB of a bound that is not listed as a node: no step concludes it.
-pub const UNLISTED_BOUND: u32 = 196608;
-
-// The entry of a statement without a need.
-pub const NO_NEED: u32 = 196609;
-
-// The outcome of the needs and, after a pass, the first step that concludes each, at the need's place.
+// What the steps must conclude for a statement's symbol.
 #[derive(Clone, Copy)]
-pub struct SettledNeeds {
-    pub outcome: Outcome,
-    pub steps: [u8; 128],
+pub enum Need {
+    Nothing,
+    // SUB of a bound that is not listed as a node: no step concludes it.
+    Unlisted,
+    // The conclusion with this key.
+    Conclusion(u32),
 }
 
-// Where a search over the steps ends.
-#[derive(Clone, Copy)]
-pub enum Found {
-    At(usize),
-    Nowhere,
-}
-
-// The image of a node under a map; the number of nodes where it is not listed.
-fn image_node(keys: &[u32; 48], nodes: usize, node: usize, map: usize) -> usize
-    requires { ImageSought nodes node map }
-    ensures { ((P : Plan) → NodesKeyed P keys.now nodes → result ≡ image_node P node map) × (result ≤ nodes) }
+// Where the first of these keys that is this one stands.
+fn position_of(keys: &[u32], wanted: u32) -> Option<usize>
+    ensures { result ≡ position (λ key. key == wanted) keys.now }
 {
-    let wanted = node_key(IMAGE, node, map);
-    let mut j = 0;
-    while j < nodes {
-        if keys[j] == wanted {
-            return j;
+    keys.iter().position(|key| *key == wanted)
+}
+
+// The image of a node under a map. The number of nodes stands for one that is not listed, as in the definition: an Option would be no
+// plainer, since a bound that is not listed is looked for as an operand too.
+fn image_node(tables: PlanTables<'_>, node: usize, map: usize) -> usize
+    requires { (node < 256) × (map < 256) }
+    ensures { (result ≡ image_node (plan_at tables.entry) node map) × (result ≤ 48) }
+{
+    let nodes = tables.node_count();
+    let wanted = node_key(NodeKind::Image, node, map);
+    position_of(&tables.nodes.keys[..nodes], wanted).unwrap_or(nodes)
+}
+
+// The bound of the variable that statement s defines, given the statement's node and the bound of the variable that it follows.
+#[tactic(auto, unfolding(crate::specs::Needs::bound_at, model::specs::Needs::bound_by))]
+fn variable_bound(tables: PlanTables<'_>, s: usize, node: usize, followed: usize) -> usize
+    requires { BoundSought (plan_at tables) s node followed }
+    ensures { (result ≡ bound_at (plan_at tables.entry) s (λ d. followed)) × (result < 256) }
+{
+    match tables.kind(s) {
+        StatementKind::For => node,
+        StatementKind::Load | StatementKind::Call => {
+            let map = byte_at(tables.sections.statements, s * STATEMENT_BYTES + 1);
+            image_node(tables, followed, map)
         }
-        j += 1;
-    }
-    j
-}
-
-// The bound of the variable that statement s defines, given the statement's symbol and the bound of the variable that it follows.
-fn variable_bound(
-    statements: &[u8],
-    assignments: &[u8],
-    keys: &[u32; 48],
-    nodes: usize,
-    s: usize,
-    symbol: usize,
-    followed: usize,
-) -> usize
-    requires { BoundSought nodes s followed }
-    ensures { ((P : Plan) → BoundSources P statements.now assignments.now keys.now nodes → symbol ≡ Needs.symbol P s → result ≡ bound_at P s (λ d. followed)) × (result < 256) }
-{
-    let map = byte_at(statements, s * STATEMENT_BYTES + 1);
-    match kind_at(statements, s) {
-        StatementKind::For => byte_at(assignments, symbol),
-        StatementKind::Load => image_node(keys, nodes, followed, map),
-        StatementKind::Call => image_node(keys, nodes, followed, map),
         StatementKind::Copy => followed,
-        StatementKind::Read => nodes,
-        StatementKind::Write => nodes,
-        StatementKind::Reduce => nodes,
-        StatementKind::Unknown => nodes,
+        StatementKind::Read
+        | StatementKind::Write
+        | StatementKind::Reduce
+        | StatementKind::Unknown => tables.node_count(),
     }
 }
 
 // What a statement's symbol needs: a loop COMP of its node, an access SUB of its variable's bound in its node.
-fn first_need(kind: StatementKind, node: usize, bound: usize, nodes: usize) -> u32
+#[tactic(auto, using(primitives::proofs::OpenTests::tests_open), unfolding(crate::specs::Needs::first_need, model::specs::Tests::pick))]
+fn first_need(kind: StatementKind, node: usize, bound: usize, nodes: usize) -> Need
     requires { (node < 256) × (nodes ≤ 48) }
     ensures { result ≡ first_need kind node bound nodes }
 {
     if opens_loop(kind) {
-        return complete_key(node);
+        return Need::Conclusion(complete_key(node));
     }
     if !is_access(access_of(kind)) {
-        return NO_NEED;
+        return Need::Nothing;
     }
     if bound < nodes {
-        subset_key(bound, node)
+        Need::Conclusion(subset_key(bound, node))
     } else {
-        UNLISTED_BOUND
+        Need::Unlisted
+    }
+}
+
+// What the symbol of a loop needs besides: DISJ of its node, if the loop reduces through a pointer.
+#[tactic(auto, unfolding(crate::specs::Needs::second_need, model::specs::Tests::pick))]
+fn second_need(reduces: bool, node: usize) -> Need
+    requires { node < 256 }
+    ensures { result ≡ second_need reduces node }
+{
+    if reduces {
+        Need::Conclusion(disjoint_key(node))
+    } else {
+        Need::Nothing
     }
 }
 
 // Whether statement s opens a loop that reduces through a pointer.
-fn needs_disjoint(statements: &[u8], operands: &[u8], centered: &[bool], s: usize) -> bool
-    requires { Within statements.now s }
-    ensures { (P : Plan) → PointersKnown P statements.now operands.now centered.now → result ≡ (opens P s and reduces_through_pointer P s) }
+#[tactic(auto, using(primitives::proofs::OpenTests::tests_open), unfolding(model::specs::Statements::opens))]
+fn needs_disjoint(tables: PlanTables<'_>, s: usize) -> bool
+    requires { s < statement_count (plan_at tables) }
+    ensures { result ≡ (opens (plan_at tables.entry) s and reduces_through_pointer (plan_at tables.entry) s) }
 {
-    if opens_loop(kind_at(statements, s)) {
-        return reduces_through_pointer(statements, operands, centered, s);
-    }
-    false
-}
-
-// What the symbol of a loop needs besides: DISJ of its node, if the loop reduces through a pointer.
-fn second_need(reduces: bool, node: usize) -> u32
-    requires { node < 256 }
-    ensures { result ≡ second_need reduces node }
-{
-    if reduces { disjoint_key(node) } else { NO_NEED }
-}
-
-// Needs one of which no step concludes.
-fn unmet_need(symbol: usize) -> SettledNeeds
-    ensures { result.outcome ≡ Refuse (UnmetNeed symbol) }
-{
-    SettledNeeds {
-        outcome: Outcome::Refuse(Refusal::UnmetNeed(symbol)),
-        steps: [0u8; 128],
-    }
-}
-
-// Settles the needs in order: the steps are searched for each, and the search is left at the first that concludes it.
-fn settle(
-    needs: &[u32; 128],
-    symbols: &[u8],
-    count: usize,
-    conclusions: &[u32; 128],
-    steps: usize,
-) -> SettledNeeds
-    requires { (count ≤ 128) × (steps ≤ 128) }
-    ensures { NeedsSettled needs.now symbols.now count conclusions.now steps result }
-{
-    let mut found_steps = [0u8; 128];
-    let mut i = 0;
-    'needs: while i < count {
-        let need = needs[i];
-        if need == NO_NEED {
-            i += 1;
-            continue 'needs;
-        }
-        let mut t = 0;
-        let found = 'steps: loop {
-            if t >= steps {
-                break 'steps Found::Nowhere;
-            }
-            if conclusions[t] == need {
-                break 'steps Found::At(t);
-            }
-            t += 1;
-        };
-        match found {
-            Found::At(step) => found_steps[i] = step as u8,
-            Found::Nowhere => return unmet_need(byte_at(symbols, i / 2)),
-        }
-        i += 1;
-    }
-    SettledNeeds {
-        outcome: Outcome::Pass,
-        steps: found_steps,
-    }
+    opens_loop(tables.kind(s))
+        && reduces_through_pointer(tables.sections.statements, tables.statements, s)
 }
 
 // Lists the needs of the statements in order, two of each: needs 2s and 2s + 1 are those of statement s.
-fn list_needs(
-    statements: &[u8],
-    assignments: &[u8],
-    operands: &[u8],
-    centered: &[bool],
-    keys: &[u32; 48],
-    nodes: usize,
-    needs: &mut [u32; 128],
-    symbols: &mut [u8; 64],
-)
-    requires { NeedsFit statements.now nodes needs.old symbols.old }
-    ensures { (length symbols.new ≡ 64) × ((P : Plan) → NeedSources P statements.now assignments.now operands.now centered.now keys.now nodes → NeedsListed P (statement_count P) needs.new symbols.new) }
+fn list_needs(tables: PlanTables<'_>, needs: &mut [Need; 128])
+    ensures { NeedsListed (plan_at tables.entry) (statement_count (plan_at tables.entry)) needs.new }
 {
+    let nodes = tables.node_count();
     let mut bounds = [0u8; 64];
     let mut symbol = 0;
-    let mut s = 0;
-    while s < statements.len() / STATEMENT_BYTES {
-        let node = byte_at(assignments, symbol);
-        let operand = byte_at(operands, s);
-        let followed = earlier_byte(&bounds, s, operand, nodes);
-        let defined = variable_bound(statements, assignments, keys, nodes, s, symbol, followed);
-        bounds[s] = defined as u8;
+    for s in 0..tables.statement_count() {
+        let node = tables.assigned(symbol);
+        let operand = tables.operand(s);
+        let followed = usize::from(entry_or(&bounds[..s], operand, nodes as u8));
+        bounds[s] = variable_bound(tables, s, node, followed) as u8;
         let bound = byte_at(&bounds, operand);
-        needs[s * 2] = first_need(kind_at(statements, s), node, bound, nodes);
-        let reduces = needs_disjoint(statements, operands, centered, s);
-        needs[s * 2 + 1] = second_need(reduces, node);
-        symbols[s] = symbol as u8;
-        symbol = next_symbol(statements, s, symbol);
-        s += 1;
+        needs[s * 2] = first_need(tables.kind(s), node, bound, nodes);
+        needs[s * 2 + 1] = second_need(needs_disjoint(tables, s), node);
+        symbol = next_symbol(tables, s, symbol);
     }
 }
 
-// The check of the needs: the first that no step concludes is refused, at its symbol.
-pub fn check_needs(
-    plan: &[u8],
-    frame: Frame,
-    operands: &[u8],
-    centered: &[bool],
-    keys: &[u32; 48],
-    conclusions: &[u32; 128],
-) -> SettledNeeds
-    requires { Laid plan.now frame }
-    ensures { NeedTables (plan_of plan.now) operands.now centered.now keys.now conclusions.now → NeedsChecked (plan_of plan.now) result }
+// The refusal of need i, at its statement's symbol.
+fn unmet_need(tables: PlanTables<'_>, i: usize) -> Refusal
+    requires { i < statement_count (plan_at tables) * 2 }
+    ensures { result ≡ UnmetNeed (symbol (plan_at tables.entry) (i / 2)) }
 {
-    let statements = plan_section(plan, frame, STATEMENTS);
-    let nodes = plan_section(plan, frame, NODES);
-    let assignments = plan_section(plan, frame, ASSIGNMENTS);
-    let steps = plan_section(plan, frame, STEPS);
-    let mut needs = [NO_NEED; 128];
-    let mut symbols = [0u8; 64];
-    list_needs(
-        statements,
-        assignments,
-        operands,
-        centered,
-        keys,
-        nodes.len() / NODE_BYTES,
-        &mut needs,
-        &mut symbols,
-    );
-    settle(
-        &needs,
-        &symbols,
-        statements.len() / STATEMENT_BYTES * 2,
-        conclusions,
-        steps.len() / STEP_BYTES,
-    )
+    Refusal::UnmetNeed(symbol_of(tables, i / 2))
+}
+
+// Settles the needs in order: the steps are searched for each, and the search is left at the first that concludes it.
+#[tactic(auto, using(primitives::proofs::Searching::searched, primitives::proofs::OpenTests::tests_open))]
+fn settle(
+    tables: PlanTables<'_>,
+    needs: &[Need; 128],
+    conclusions: &[u32; 128],
+) -> Result<[u8; 128], Refusal>
+    ensures { NeedsSettled (plan_at tables.entry) needs.now conclusions.now result }
+{
+    // 0 where nothing is needed: only the places that need a step are spoken of.
+    let mut concluding = [0u8; 128];
+    // By labels: the nested search is left by its label with the found step (project's form).
+    'needs: for i in 0..tables.statement_count() * 2 {
+        let key = match needs[i] {
+            Need::Nothing => continue 'needs,
+            Need::Unlisted => return Err(unmet_need(tables, i)),
+            Need::Conclusion(key) => key,
+        };
+        let found = 'steps: {
+            for t in 0..tables.step_count() {
+                if conclusions[t] == key {
+                    break 'steps Some(t);
+                }
+            }
+            None
+        };
+        match found {
+            Some(step) => concluding[i] = step as u8,
+            None => return Err(unmet_need(tables, i)),
+        }
+    }
+    Ok(concluding)
+}
+
+// The check of the needs: the first that no step concludes is refused, at its symbol. After a pass, the first step that concludes each,
+// at the need's place.
+pub fn check_needs(tables: PlanTables<'_>, conclusions: &[u32; 128]) -> Result<[u8; 128], Refusal>
+    ensures { ConclusionKeys (plan_at tables.entry) (step_count (plan_at tables.entry)) conclusions.now → NeedsChecked (plan_at tables.entry) result }
+{
+    let mut needs = [Need::Nothing; 128];
+    list_needs(tables, &mut needs);
+    settle(tables, &needs, conclusions)
 }

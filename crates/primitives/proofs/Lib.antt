@@ -6,3 +6,5 @@ pub mod Shifts
 pub mod Bits
 pub mod Searching
 pub mod Stages
+pub mod OpenTests
+pub mod NoKinds

@@ -42,3 +42,5 @@ first_passes n f = same_truth found some
         let most = first_most f 0 n w.0 (omega arith) (omega (arith, w.1)) w.2 in
         let lt : first f 0 n < n = omega (arith, w.1) in
         less! lt
+
+pub ruleset searched = (searching_start, searching_next, searching_found, searching_end)

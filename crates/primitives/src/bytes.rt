@@ -1,19 +1,15 @@
 // Bytes as numbers, for every place.
+// A slice and a place: a record's cells are read at computed places, past the end too, so that a subslice would need a test more.
 ghost use Rattle.std.specs.Prelude.{◌≡◌, ◌<◌, get_or};
 ghost use Rattle.model.specs.Bytes.{u16};
 
-// A byte as a number.
-pub fn usize_of(byte: u8) -> usize
-    ensures { (result ≡ byte) × (result < 256) }
-{
-    byte as usize
-}
+use crate::lookup::entry_or;
 
 // The byte at a place; 0 past the end.
 pub fn byte_at(s: &[u8], at: usize) -> usize
     ensures { (result ≡ get_or s.now at 0) × (result < 256) }
 {
-    if at < s.len() { s[at] as usize } else { 0 }
+    usize::from(entry_or(s, at, 0))
 }
 
 // The number in the two bytes at a place, the higher first; bytes past the end are 0.

@@ -1,9 +1,12 @@
 // Cells of the records that several readers share: of a map, of a supplied partition and of a node.
+// A function for each cell, though each is a line: its name says more than a place as a parameter. Flags and totality are
+// numbers, since sections 2 and 3 are refused for what is above 3 and 1.
 ghost use Rattle.std.specs.Prelude.{◌≡◌, ◌+◌, ◌*◌, ◌^◌, ◌<◌};
 ghost use Rattle.model.specs.Layout.{Plan, source, target, totality, supplied_region, supplied_flags};
 ghost use Rattle.model.specs.Nodes.{node_kind_of, node_kind_at};
 
 use crate::bytes::byte_at;
+use crate::lookup::entry_or;
 use model::NodeKind;
 
 // The region that a map leads from.
@@ -46,26 +49,23 @@ pub fn supplied_flags(supplied: &[u8], partition: usize) -> usize
     byte_at(supplied, partition * 2 + 1)
 }
 
-// The kind that a node's first byte stands for.
-pub fn node_kind_of(byte: usize) -> NodeKind
-    ensures { result ≡ node_kind_of byte }
+// The kind that a number stands for.
+#[tactic(auto, using(crate::proofs::NoKinds::no_node_kind))]
+pub fn node_kind_of(number: usize) -> NodeKind
+    ensures { result ≡ node_kind_of number }
 {
-    match byte {
-        0 => NodeKind::Supplied,
-        1 => NodeKind::Equal,
-        2 => NodeKind::Union,
-        3 => NodeKind::Intersection,
-        4 => NodeKind::Difference,
-        5 => NodeKind::Image,
-        6 => NodeKind::Preimage,
-        _ => NodeKind::Unknown,
+    if number < 256 {
+        NodeKind::from(number as u8)
+    } else {
+        NodeKind::Unknown
     }
 }
 
 // The kind of node j.
+#[tactic(auto, unfolding(model::specs::Nodes::node_kind_at))]
 pub fn node_kind(nodes: &[u8], j: usize) -> NodeKind
     requires { j * 4 + 3 < 2 ^ 64 }
     ensures { (P : Plan) → P.nodes ≡ nodes.now → result ≡ node_kind_at P j }
 {
-    node_kind_of(byte_at(nodes, j * 4))
+    NodeKind::from(entry_or(nodes, j * 4, 0))
 }

@@ -5,20 +5,10 @@ ghost use Rattle.primitives.specs.Sections.{frame_of, Delimits};
 
 use crate::bytes::{byte_at, u16_at};
 
-// The sections of a plan, by what they hold: how many others each comes after.
-pub const REGIONS: usize = 0;
-
-pub const MAPS: usize = 1;
-
-pub const SUPPLIED: usize = 2;
-
-pub const STATEMENTS: usize = 3;
-
+// Sections of a plan, by what they hold: how many others each comes after.
 pub const NODES: usize = 4;
 
 pub const ASSIGNMENTS: usize = 5;
-
-pub const STEPS: usize = 6;
 
 // The sections of a data set.
 pub const PIECE_COUNT: usize = 0;
@@ -43,11 +33,9 @@ pub fn read_frame(s: &[u8], sections: usize) -> Frame
     let mut boundaries = [0usize; 9];
     let mut at = 1;
     boundaries[0] = at;
-    let mut n = 0;
-    while n < sections {
+    for n in 0..sections {
         at = at + 2 + u16_at(s, at);
-        n += 1;
-        boundaries[n] = at;
+        boundaries[n + 1] = at;
     }
     Frame { boundaries }
 }

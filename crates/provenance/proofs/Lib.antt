@@ -1,4 +1,5 @@
 pub mod LeastSources
+pub mod Parts
 pub mod NextPairs
 pub mod Walks
 pub mod Questions

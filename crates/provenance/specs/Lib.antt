@@ -1,3 +1,5 @@
 pub mod Sources
+pub mod Piece
+pub mod Members
 pub mod Chain
 pub mod Question

@@ -1,22 +1,16 @@
--- A question about accepted inputs, in the stages of its answer.
-use Rattle.std.specs.Prelude.{ℕ, ◌+◌, ◌*◌, ◌≤◌, ◌<◌, ◌≡◌, List, length}
-use Rattle.model.specs.Tests.{Is, ◌<?◌}
-use Rattle.model.specs.Bytes.{Bytes}
-use Rattle.model.specs.Outcomes.{require, ◌then◌, conclude_writing}
-use Rattle.model.specs.Layout.{Plan, plan_of, node_count}
+-- A question about inputs, in the stages of its answer.
+use Rattle.std.specs.Prelude.{ℕ, ◌+◌, ◌*◌, ◌≤◌, ◌≡◌, List, length, Ok}
+use Rattle.model.specs.Tests.{◌<?◌}
+use Rattle.model.specs.Outcomes.{require, ◌then◌, conclude, Outcome, Written}
+use Rattle.model.specs.Layout.{Plan, node_count}
 use Rattle.model.specs.Nodes.{node_region}
-use Rattle.model.specs.DataSets.{DataSet, data_of, pieces, size}
-use Rattle.model.specs.Membership.{member}
-use Rattle.model.specs.Words.{holds}
-use Rattle.model.specs.Provenance.{pairs_needed, question_check, chain_room_check, nodes_after, elements_after}
-use Rattle.model.specs.declared.Outcome.{Outcome}
-use Rattle.model.specs.declared.Outcome.TheVariants.{Pass}
+use Rattle.model.specs.DataSets.{DataSet, pieces, size}
+use Rattle.model.specs.Words.{list_after}
+use Rattle.model.specs.Provenance.{chain_pair, pairs_needed, question_check, chain_room_check}
 use Rattle.model.specs.declared.Refusal.TheVariants.{NotFound}
 use Rattle.model.specs.declared.Question.{Question}
-use Rattle.model.specs.declared.Written.{Written}
-use Rattle.plan.specs.declared.Reading.{Reading}
-use Rattle.dataset.specs.declared.layout.DataLayout.{DataLayout}
-use Rattle.evaluate.specs.Words.{InputsReady}
+use Rattle.evaluate.specs.Inputs.{plan_given, data_given}
+use Rattle.evaluate.specs.declared.inputs.Inputs.{Inputs}
 
 -- places 1 to 3 of 16: "node, piece or element does not exist"
 abbrev pub existence_check : Plan → DataSet → Question → Outcome
@@ -25,25 +19,13 @@ existence_check P D q =
     then require (q.piece <? pieces D) (NotFound 2)
     then require (q.element <? size D (node_region P q.node)) (NotFound 3)
 
--- what is asked is so, and the words hold the piece of the nodes up to the one asked about
-pub record MemberReady (p : Bytes) (reading : Reading) (d : Bytes) (layout : DataLayout) (words : List ℕ) (q : Question) : Type 0 where
-  pub inputs : InputsReady p reading d layout
-  pub node_listed : q.node < node_count (plan_of p)
-  pub room : (q.node + 1) * 8 ≤ length words
-  pub held : (j e : ℕ) → j ≤ q.node → e < 512 → holds words (j * 8) e ≡ member (plan_of p) (data_of d) j q.piece e
-  pub member_is : Is (member (plan_of p) (data_of d) q.node q.piece q.element)
-
--- what is asked about exists, and there are words for one piece of the nodes up to it
-pub record ExistingReady (p : Bytes) (reading : Reading) (d : Bytes) (layout : DataLayout) (q : Question) (lent : ℕ) : Type 0 where
-  pub inputs : InputsReady p reading d layout
-  pub exists : existence_check (plan_of p) (data_of d) q ≡ Pass
+-- what is asked about exists, and so many words are enough for one piece of the nodes up to it
+pub record ExistingReady (inputs : Inputs) (q : Question) (lent : ℕ) : Type 0 where
+  pub exists : existence_check (plan_given inputs) (data_given inputs) q ≡ Ok tt
   pub room : (q.node + 1) * 8 ≤ lent
 
 -- the answer after accepted inputs, and both slices as it leaves them
-pub record Answered (p d : Bytes) (q : Question) (oldNodes newNodes oldElements newElements : List ℕ) (r : Written) : Type 0 where
-  pub answer :
-      r ≡ conclude_writing
-      (question_check (plan_of p) (data_of d) q then chain_room_check (plan_of p) (data_of d) q (length oldNodes) (length oldElements))
-      (pairs_needed (plan_of p) (data_of d) q)
-  pub nodes_are : newNodes ≡ nodes_after p d q oldNodes r
-  pub elements_are : newElements ≡ elements_after p d q oldElements r
+pub record Answered (P : Plan) (D : DataSet) (q : Question) (old_nodes new_nodes old_elements new_elements : List ℕ) (r : Written) : Type 0 where
+  pub answer : r ≡ conclude (question_check P D q then chain_room_check P D q (length old_nodes) (length old_elements)) (pairs_needed P D q)
+  pub nodes_are : new_nodes ≡ list_after (λ k. (chain_pair P D q k).node) old_nodes r
+  pub elements_are : new_elements ≡ list_after (λ k. (chain_pair P D q k).element) old_elements r

@@ -1,15 +1,16 @@
 // Explains why a piece of a node holds an element.
+// Seven parameters: the exported function's (C interface).
 #![tactic(auto)]
 
 ghost use Rattle.model.specs.Provenance.{asking};
 ghost use Rattle.model.specs.Promises.{ExplanationPromise};
 
 use crate::question::answer_question;
-use evaluate::data::{check_contents, read_data_layout};
-use model::{Answer, Outcome, Question, Written};
-use plan::read;
+use evaluate::reading::read_inputs;
+use model::{Question, Refusal};
 
 mod chain;
+mod piece;
 mod question;
 mod sources;
 
@@ -22,26 +23,14 @@ pub fn explain(
     element: usize,
     nodes: &mut [u16],
     elements: &mut [u16],
-) -> Written
+) -> Result<usize, Refusal>
     ensures { ExplanationPromise plan.now «data».now (asking node piece element) nodes.old nodes.new elements.old elements.new result }
 {
-    let reading = read(plan);
-    let answer = reading.answer;
-    if let Answer::Refused(refusal) = answer {
-        return Written::Refused(refusal);
-    }
-    let layout = read_data_layout(plan, reading.frame, data);
-    let laid_out = layout.outcome;
-    if let Outcome::Refuse(refusal) = laid_out {
-        return Written::Refused(refusal);
-    }
-    if let Outcome::Refuse(refusal) = check_contents(plan, reading.frame, data, layout) {
-        return Written::Refused(refusal);
-    }
+    let inputs = read_inputs(plan, data)?;
     let question = Question {
         node,
         piece,
         element,
     };
-    answer_question(plan, reading, data, layout, question, nodes, elements)
+    answer_question(&inputs, question, nodes, elements)
 }

@@ -1,45 +1,35 @@
 // The least element of a set whose entry is a given element.
-ghost use Rattle.std.specs.Prelude.{◌≡◌};
-ghost use Rattle.model.specs.Tests.{first};
-ghost use Rattle.provenance.specs.Sources.{bit_leads_to, leads_to, WordRoom, SourcesRoom};
+ghost use Rattle.std.specs.Prelude.{◌/◌, length};
+ghost use Rattle.provenance.specs.Sources.{bit_leads_to, leads_to, FirstOf, WordRoom, SourcesRoom};
 
 use bitsets::words::{lowest, u16_inside};
 
-// The least member of a word whose entry is this element; 64 where there is none. The entry of place 0 stands at `start`.
-fn least_in_word(members: u64, entries: &[u8], start: usize, element: usize) -> usize
-    requires { WordRoom members entries.now start }
-    ensures { result ≡ first (bit_leads_to members entries.now start element) 0 64 }
+// The least member of a word whose entry is this element.
+fn least_in_word(members: u64, entries: &[u8], element: usize) -> Option<usize>
+    requires { WordRoom members entries.now }
+    ensures { FirstOf (bit_leads_to members entries.now element) 64 result }
 {
     let mut rest = members;
+    // By a while: it goes over the bits that are set, and counts nothing.
     while rest != 0 {
         let place = lowest(rest);
-        if u16_inside(entries, start + 2 * place) as usize == element {
-            return place;
+        if usize::from(u16_inside(entries, 2 * place)) == element {
+            return Some(place);
         }
-        rest = rest & (rest - 1);
+        rest &= rest - 1;
     }
-    64
+    None
 }
 
-// The least of the first `count` elements that the set at word `at` holds and whose entry is this element; `count` where there is none.
-pub fn least_source(
-    words: &[u64],
-    at: usize,
-    entries: &[u8],
-    start: usize,
-    count: usize,
-    element: usize,
-) -> usize
-    requires { SourcesRoom words.now at entries.now start count }
-    ensures { result ≡ first (leads_to words.now at entries.now start element) 0 count }
+// The least element that the set holds and whose entry is this element.
+pub fn least_source(set: &[u64], entries: &[u8], element: usize) -> Option<usize>
+    requires { SourcesRoom set.now entries.now }
+    ensures { FirstOf (leads_to set.now entries.now element) (length entries.now / 2) result }
 {
-    let mut w = 0;
-    while 64 * w < count {
-        let place = least_in_word(words[at + w], entries, start + 128 * w, element);
-        if place < 64 {
-            return 64 * w + place;
+    for w in 0..entries.len().div_ceil(128) {
+        if let Some(place) = least_in_word(set[w], &entries[128 * w..], element) {
+            return Some(64 * w + place);
         }
-        w += 1;
     }
-    count
+    None
 }

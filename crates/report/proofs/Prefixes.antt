@@ -9,21 +9,19 @@ use native.Mathlib.Omega.{arith}
 use lib.Dec.{lit<}
 use lib.ListN.{length, take}
 use lib.Seq.{get_or-take, take_all, length-take-le}
+use Rattle.std.specs.Prelude.{Ok, Err}
 use Rattle.model.specs.Bytes.{Bytes, byte, boundary}
 use Rattle.model.specs.Tests.{Is, ◌and◌, non, ◌≤?◌}
-use Rattle.model.specs.Outcomes.{require, ◌then◌, scan, conclude}
+use Rattle.model.specs.Outcomes.{require, ◌then◌, scan, conclude, Outcome}
 use Rattle.model.specs.Layout.{Plan, plan_of, section_check, layout_check}
 use Rattle.model.specs.Verdict.{plan_check, accepted}
 use Rattle.model.specs.DataSets.{data_check, well_framed}
 use Rattle.model.specs.Evaluation.{inputs_check, evaluation_check, evaluation}
-use Rattle.model.specs.declared.Answer.{Answer}
-use Rattle.model.specs.declared.Answer.TheVariants.{Accepted}
+use Rattle.model.specs.declared.Acceptance.{Acceptance}
 use Rattle.model.specs.declared.Refusal.{Refusal}
 use Rattle.model.specs.declared.Refusal.TheVariants.{Truncated, TrailingBytes, InvalidData}
-use Rattle.model.specs.declared.Outcome.{Outcome}
-use Rattle.model.specs.declared.Outcome.TheVariants.{Pass, Refuse}
 use Rattle.model.proofs.Tests.{both, pair, refuted, same, fails, most, most! }
-use Rattle.model.proofs.Outcomes.{then_pass, required, conclude_accepted}
+use Rattle.model.proofs.Outcomes.{then_pass, required, conclude_ok}
 use Rattle.model.proofs.Accepted.{laid_out_lem, plan_accepted}
 use Rattle.model.proofs.Fitting.{data_laid_out}
 use Rattle.primitives.proofs.Bodies.{boundary_most}
@@ -47,15 +45,15 @@ scan_same f g k (suc n) same_at =
     rw (same_at k (omega arith), scan_same f g (suc k) n (λ l lt. same_at l (omega arith)))
 
 -- after a refusal nothing is asked
-then_same : (o o' a b : Outcome) → o ≡ o' → (o' ≡ Pass → ⊥) → o then a ≡ o' then b
+then_same : (o o' a b : Outcome) → o ≡ o' → (o' ≡ Ok tt → ⊥) → o then a ≡ o' then b
 unfolding ◌then◌
-then_same o Pass a b e h = absurd (h refl)
-then_same o (Refuse r) a b e h = rw e
+then_same o (Ok _) a b e h = absurd (h refl)
+then_same o (Err r) a b e h = rw e
 
-conclude_same : (o o' : Outcome) (x y : Answer) → o ≡ o' → (o' ≡ Pass → ⊥) → conclude o x ≡ conclude o' y
+conclude_same : {A : Type 0} (o o' : Outcome) (x y : A) → o ≡ o' → (o' ≡ Ok tt → ⊥) → conclude o x ≡ conclude o' y
 unfolding conclude
-conclude_same o Pass x y e h = absurd (h refl)
-conclude_same o (Refuse r) x y e h = rw e
+conclude_same o (Ok _) x y e h = absurd (h refl)
+conclude_same o (Err r) x y e h = rw e
 
 require_same : (a b : Bool) (r : Refusal) → Is (non a) → Is (non b) → require a r ≡ require b r
 require_same a b r h h' = rw (fails h, fails h')
@@ -116,7 +114,7 @@ module _ (P : Plan) where
   unfolding well_framed
   not_framed d long h = let e = same (both (both (both (both h).1).1).1).0 in omega arith
 
-  data_refused : (d : Bytes) → boundary d 4 < length d → data_check P d ≡ Refuse InvalidData
+  data_refused : (d : Bytes) → boundary d 4 < length d → data_check P d ≡ Err InvalidData
   unfolding data_check require ◌then◌
   data_refused d long = rw (fails (refuted (not_framed d long)), require, ◌then◌)
 
@@ -135,8 +133,8 @@ evaluation_plan p d lent k bytes room =
       | yes h ↦ rw (take_all k p h)
       | no more ↦
           let long : k < length p = omega arith in
-          let refused : plan_check p ≡ Pass → ⊥ = λ h. omega (arith, (plan_accepted p h).layout.nothing_after, boundary_most p bytes 7) in
-          let inputs_refused : inputs_check p d ≡ Pass → ⊥ = λ h. refused (then_pass _ _ h).0 in
+          let refused : plan_check p ≡ Ok tt → ⊥ = λ h. omega (arith, (plan_accepted p h).layout.nothing_after, boundary_most p bytes 7) in
+          let inputs_refused : inputs_check p d ≡ Ok tt → ⊥ = λ h. refused (then_pass _ _ h).0 in
           conclude_same _ _ _ _ (then_same _ _ _ _ (then_same _ _ _ _ (plan_same p bytes k room long) refused) inputs_refused)
           (λ h. inputs_refused (then_pass _ _ h).0)
     ]
@@ -148,7 +146,7 @@ evaluation_data p d lent k bytes room =
       | yes h ↦ rw (take_all k d h)
       | no more ↦
           let long : k < length d = omega arith in
-          let refused : data_check (plan_of p) d ≡ Pass → ⊥ = λ h. omega (arith, (data_laid_out (plan_of p) d h).nothing_after, boundary_most d bytes 4) in
+          let refused : data_check (plan_of p) d ≡ Ok tt → ⊥ = λ h. omega (arith, (data_laid_out (plan_of p) d h).nothing_after, boundary_most d bytes 4) in
           let inputs-same = ap (λ (o : Outcome). plan_check p then o) (data_same (plan_of p) d bytes k room long) in
           ap (λ (o : Outcome). conclude o (accepted (plan_of p))) (then_same _ _ _ _ inputs-same (λ h. refused (then_pass _ _ h).1))
     ]
@@ -169,10 +167,10 @@ module _ (p d : Bytes) (plan-bytes : (i : ℕ) → byte p i < 256) (data-bytes :
       ∙ evaluation_plan p d lent plan_bytes plan-bytes plan_room
 
   -- and on acceptance they hold the whole files
-  pub accepted_whole : (lent s n t : ℕ) → evaluation p d lent ≡ Accepted s n t → (take plan_bytes p ≡ p) × (take data_bytes d ≡ d)
+  pub accepted_whole : (lent : ℕ) (a : Acceptance) → evaluation p d lent ≡ Ok a → (take plan_bytes p ≡ p) × (take data_bytes d ≡ d)
   unfolding evaluation evaluation_check inputs_check
-  accepted_whole lent s n t h =
-      let (inputs, enough) = then_pass _ _ (conclude_accepted _ _ s n t h).0 in
+  accepted_whole lent a h =
+      let (inputs, enough) = then_pass _ _ (conclude_ok _ _ a h).0 in
       let (plan, fits) = then_pass _ _ inputs in (
         take_all plan_bytes p (omega (arith, plan_room, (plan_accepted p plan).layout.nothing_after, boundary_most p plan-bytes 7)),
         take_all data_bytes d

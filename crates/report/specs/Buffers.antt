@@ -1,4 +1,4 @@
--- The sizes of the report's buffers. A longer file gets the answer of the whole from what fits: proofs/Prefixes.
+-- How much of its files the report reads. A longer file gets from that the answer of the whole: proofs/Prefixes.
 use Rattle.std.specs.Prelude.{ℕ, ◌+◌, ◌*◌}
 
 -- the edition, seven sections of at most 2 + 65535 bytes each, and one byte more

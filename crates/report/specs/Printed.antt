@@ -2,13 +2,13 @@
 use Rattle.std.specs.Prelude.{◌≡◌, ℕ, zero, suc, List, [], ◌++◌, length}
 use Rattle.std.specs.declared.option.Option.{Option}
 use Rattle.std.specs.Io.KnownBytes.{Appends}
+use Rattle.model.specs.Outcomes.{Answer}
 use Rattle.model.specs.Bytes.{Bytes}
 use Rattle.model.specs.Layout.{plan_of, assigned}
 use Rattle.model.specs.DataSets.{data_of, pieces}
 use Rattle.model.specs.Evaluation.{MOST_WORDS}
 use Rattle.model.specs.Promises.{EvaluationPromise}
 use Rattle.model.specs.Answers.{report}
-use Rattle.model.specs.declared.Answer.{Answer}
 use Rattle.listing.specs.Text.{Text, answer_text, node_text}
 
 -- the lines of the first n symbols, whose members stand in the words

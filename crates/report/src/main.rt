@@ -2,9 +2,8 @@
 // and piece, the members.
 #![tactic(auto)]
 
-ghost use Rattle.std.specs.Prelude.{◌≡◌, length, OnOk};
+ghost use Rattle.std.specs.Prelude.{◌≡◌, ◌≤◌, IfSome, OnOk, vec_len};
 ghost use Rattle.std.specs.Io.KnownBytes.{Appends};
-ghost use Rattle.model.specs.Evaluation.{MOST_WORDS};
 ghost use Rattle.report.specs.Buffers.{plan_bytes, data_bytes};
 ghost use Rattle.report.specs.Printed.{symbols_text, Printed};
 
@@ -14,9 +13,19 @@ use files::read_file;
 use layout::cells::assigned_node;
 use listing::{print_answer, print_node};
 use std::io;
-use std::io::Write;
+use std::io::{BufWriter, Write};
+use std::rt::Files;
+
+// How much of each file is read: of a longer one, this gives the answer of the whole (proofs/Prefixes.antt).
+const PLAN_BYTES: usize = 458_761;
+
+const DATA_BYTES: usize = 262_150;
+
+// As many words as any plan needs.
+const MOST_WORDS: usize = 6144;
 
 // Prints the members of each symbol's pieces.
+#[tactic(auto, using(listing::proofs::Written::none_written, listing::proofs::Written::then_written), unfolding(crate::specs::Printed::symbols_text))]
 fn print_symbols<W: Write>(
     out: &mut W,
     plan: &[u8],
@@ -27,59 +36,41 @@ fn print_symbols<W: Write>(
     ensures { OnOk result (Appends (W.contents out.old) (W.contents out.new) (symbols_text plan.now «data».now words.now symbols)) }
 {
     let pieces = piece_count(data);
-    let mut symbol = 0;
-    while symbol < symbols {
+    for symbol in 0..symbols {
         print_node(out, symbol, assigned_node(plan, symbol), pieces, words)?;
-        symbol += 1;
     }
     Ok(())
-}
-
-// A buffer for a plan: of a longer file, what fits gives the answer of the whole (proofs/Prefixes.antt).
-fn plan_buffer() -> [u8; 458761]
-    ensures { (458761 ≡ length result) × (458761 ≡ plan_bytes) }
-{
-    [0; 458761]
-}
-
-// A buffer for a data set, likewise.
-fn data_buffer() -> [u8; 262150]
-    ensures { (262150 ≡ length result) × (262150 ≡ data_bytes) }
-{
-    [0; 262150]
-}
-
-// As many words as any plan needs.
-fn output_words() -> [u64; 6144]
-    ensures { length result ≡ MOST_WORDS }
-{
-    [0; 6144]
 }
 
 // Evaluates, and prints the report.
 fn print_report<W: Write>(out: &mut W, plan: &[u8], data: &[u8]) -> io::Result<()>
     ensures { OnOk result (Printed plan.now «data».now (W.contents out.old) (W.contents out.new)) }
 {
-    let mut words = output_words();
+    let mut words = [0; MOST_WORDS];
     let answer = evaluate(plan, data, &mut words);
-    let report = answers::report_answer(answer);
     print_answer(out, answer)?;
-    print_symbols(out, plan, data, &words, report.symbols)
+    if let Ok(acceptance) = answer {
+        print_symbols(out, plan, data, &words, acceptance.symbols)?;
+    }
+    Ok(())
+}
+
+// Reads the plan and the data set, both before either is judged.
+#[tactic(auto, unfolding(crate::specs::Buffers::plan_bytes, crate::specs::Buffers::data_bytes))]
+fn read_inputs<R: Files + Eprint + AllocGlobal>(rt: &R) -> Option<(Vec<u8>, Vec<u8>)>
+    ensures limits { (PLAN_BYTES ≡ plan_bytes) × (DATA_BYTES ≡ data_bytes) }
+    ensures within { IfSome result (λ inputs. (vec_len inputs.0 ≤ plan_bytes) × (vec_len inputs.1 ≤ data_bytes)) }
+{
+    let plan = read_file(rt, b"plan.bin", PLAN_BYTES);
+    let data = read_file(rt, b"data.bin", DATA_BYTES);
+    plan.zip(data)
 }
 
 fn main(rt: HostRuntime) -> io::Result<()> {
-    let mut plan = plan_buffer();
-    let plan_file = read_file(&rt, b"plan.bin", &mut plan);
-    let mut data = data_buffer();
-    let data_file = read_file(&rt, b"data.bin", &mut data);
-    if plan_file.is_read & data_file.is_read {
-        let plan_length = plan_file.length;
-        let data_length = data_file.length;
-        print_report(
-            &mut io::writer(&rt),
-            &plan[..plan_length],
-            &data[..data_length],
-        )?;
+    if let Some((plan, data)) = read_inputs(&rt) {
+        let mut out = BufWriter::new(rt.alloc(), io::writer(&rt))?;
+        print_report(&mut out, plan.as_slice(), data.as_slice())?;
+        out.flush()?;
     }
     Ok(())
 }

@@ -11,11 +11,11 @@ use native.Mathlib.Decide.{ℕ_discrete}
 use native.Mathlib.Omega.{arith}
 use lib.ListN.{length, get_or}
 use Rattle.model.specs.Tests.{Is, ◌and◌, ◌or◌, non, any}
-use Rattle.model.specs.Bytes.{Bytes, u16}
+use Rattle.model.specs.Bytes.{Bytes}
 use Rattle.model.specs.Partitions.{Partition, union, intersection, difference, image, preimage}
 use Rattle.model.specs.Layout.{Plan, node_count, source, target, node_kind, node_a, node_b}
 use Rattle.model.specs.Nodes.{node_kind_of, node_kind_at, node_region}
-use Rattle.model.specs.DataSets.{DataSet, data_of, size, maps_to}
+use Rattle.model.specs.DataSets.{DataSet, size, maps_to}
 use Rattle.model.specs.Membership.{node_sets_by, node_sets, member}
 use Rattle.model.specs.Words.{bit, holds, word, store}
 use Rattle.model.proofs.Tests.{both, pair, lacks, less, less!, split, fails, pick_true, pick-false, at_each, ◌also◌, same_truth}
@@ -25,8 +25,9 @@ use Rattle.model.specs.AcceptedPlans.{Facts}
 use Rattle.model.proofs.Fitting.{Fit}
 use Rattle.model.proofs.NodeSets.{supplied_node, equal_node, union_node, intersection_node, difference_node, image_node_lem, preimage_node, kind_known, region_small, node_within}
 use Rattle.subregions.specs.declared.Span.{Span}
+use Rattle.subregions.specs.declared.sources.Sources.{Sources}
 use Rattle.subregions.specs.Pieces.{piece_words, pieces_from}
-use Rattle.subregions.specs.Fill.{sets_of_words, node_filled, span_word, filled_up_to, span_filled, SpanFits, NodeSizes, SizeSources, FillSources, NodeSources}
+use Rattle.subregions.specs.Fill.{sets_of_words, node_filled, span_word, filled_up_to, span_filled, SpanFits, FillSources, NodeSources}
 use Rattle.subregions.proofs.NodeOperators.{sets_are}
 
 -- word w of node j's piece i among the span's
@@ -194,23 +195,6 @@ module _ (P : Plan) (D : DataSet) (span : Span) (old : List ℕ) (all : (k : ℕ
   unfolding span_filled
   all_filled = row span.nodes (omega arith)
 
--- the size of a node's region, from the table of the nodes' regions
-pub size_read : {P : Plan} {d : Bytes} {sizes node_regions : List ℕ} {count j region n : ℕ} → SizeSources P d sizes node_regions count → j < count
-    → region ≡ get_or node_regions j 0 → n ≡ u16 sizes (2 * region) → n ≡ size (data_of d) (node_region P j)
-unfolding size
-size_read S lt r q = q ∙ rw (r, S.node_regions_are _ lt, S.sizes_are)
-
--- what the sizes and a node are read from, of what all nodes are
-module _ {P : Plan} {d : Bytes} {nodes node_regions sizes entries members entryStarts memberStarts : List ℕ} {span : Span} {lent : ℕ}
-    (S : FillSources P d nodes node_regions sizes entries members entryStarts memberStarts span lent) where
-  pub few_nodes_spanned : span.nodes ≤ 48
-  few_nodes_spanned = omega (arith, S.span_fits.nodes_listed, S.limits.few_nodes)
-
-  size_sources : SizeSources P d sizes node_regions span.nodes
-  size_sources = record { sizes_are = S.sizes_are; node_regions_are = λ j lt. S.node_regions_are j (omega (arith, S.span_fits.nodes_listed)) }
-
-  pub node_sources : {table : List ℕ} {now j : ℕ} → now ≡ lent → j < span.nodes
-      → (SizeSources P d sizes node_regions span.nodes → NodeSizes P (data_of d) table span.nodes)
-      → NodeSources P d nodes entries members entryStarts memberStarts table span now j
-  node_sources same lt sizes_are =
-      record { node_regions = node_regions; sizes = sizes; sources = rw same S; node_sizes_are = sizes_are size_sources; node_spanned = lt }
+-- a node of the span is read from what all are read from
+pub node_sources : {P : Plan} {d : Bytes} {read : Sources} {span : Span} {lent now j : ℕ} → FillSources P d read span lent → now ≡ lent → j < span.nodes → NodeSources P d read span now j
+node_sources S same lt = record { sources = rw same S; node_spanned = lt }

@@ -5,3 +5,4 @@ pub mod NodeOperators
 pub mod NodeFill
 pub mod AllNodes
 pub mod NeededNodes
+pub mod Sizes

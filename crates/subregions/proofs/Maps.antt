@@ -1,18 +1,20 @@
 -- The laws of image and preimage made a word at a time. Assumes nothing.
-use Prim.Native.Nat.{ℕ, suc, ◌+◌, ◌-◌, ◌*◌, ◌%◌, ◌^◌, ◌≤◌, ◌<◌, min}
-use mathlib.Core.Path.{◌≡◌, refl, sym, ap, ap₂, ◌∙◌}
+use Prim.Native.Nat.{ℕ, suc, ◌+◌, ◌-◌, ◌*◌, ◌/◌, ◌%◌, ◌^◌, ◌≤◌, ◌<◌, min}
+use mathlib.Core.Path.{◌≡◌, refl, sym, ap, ap₂, ◌∙◌, fun_ext}
 use mathlib.Core.Logic.{inl, inr}
 use mathlib.Core.Bool.{Bool, false}
 use native.Mathlib.Decide.{ℕ_discrete, dec_lt}
 use native.Mathlib.Omega.{arith}
 use lib.Pow.{pow_pos, pow_mono}
 use lib.Bits.{bit_or}
+use lib.ListN.{get_or, drop}
+use Rattle.std.proofs.lemmas.List.{get_or-drop}
 use Rattle.model.specs.Tests.{Is, ◌and◌, ◌or◌, non, any, ◌=?◌, ◌<?◌}
 use Rattle.model.specs.Bytes.{Bytes, u16}
 use Rattle.model.specs.Words.{bit, digit, from_bits, word}
 use Rattle.model.proofs.Tests.{falsum, both, pair, either, one, lacks, refuted, same, same!, less, less!, some_of, among, same_truth}
 use Rattle.model.proofs.Words.{bit_zero, digit_less, number_less, number_same, is_number}
-use Rattle.bitsets.specs.Elements.{entries_of, adding_entries, leading_to}
+use Rattle.bitsets.specs.Elements.{supplied_elements, entries_of, adding_entries, leading_to}
 use Rattle.primitives.proofs.Shifts.{shifted_or}
 use Rattle.primitives.proofs.Bits.{refute}
 
@@ -21,10 +23,13 @@ unfoldable pub upper : (ℕ → Bool) → ℕ → ℕ → ℕ
 upper elements w k = from_bits (64 * w + 64 - k) (λ b. elements (k + b))
 
 module _ (elements : ℕ → Bool) (w : ℕ) where
-  pub upper_none : (k : ℕ) → ((e : ℕ) → k ≤ e → e < 64 * w + 64 → elements e ≡ false) → 0 ≡ upper elements w k
+  upper_none : (k : ℕ) → ((e : ℕ) → k ≤ e → e < 64 * w + 64 → elements e ≡ false) → 0 ≡ upper elements w k
   unfolding upper
   upper_none k h =
       is_number (64 * w + 64 - k) 0 _ (pow_pos (64 * w + 64 - k)) (λ b l. bit_zero b ∙ sym (h (k + b) (omega arith) (omega arith)))
+
+  pub upper_end : 0 ≡ upper elements w (64 * w + 2 * 32)
+  upper_end = upper_none (64 * w + 2 * 32) (λ e l h. absurd (omega arith))
 
   upper_room : (k r : ℕ) → 64 * w < k → r ≡ upper elements w k → r * 2 ^ 1 < 2 ^ 64
   unfolding upper
@@ -78,14 +83,6 @@ pub leading_at : (n : ℕ) (entries : Bytes) (start size : ℕ) (elements : ℕ 
 unfolding leading_to
 leading_at n entries start size elements k v h q =
     ap (λ (x : ℕ). x <? size and elements x) q ∙ same_truth (λ t. pair (less! h) t) (λ t. (both t).1)
-
--- the sets agree where the operand's elements below the size do
-pub leading_same : (n : ℕ) (entries : Bytes) (start size : ℕ) (A B : ℕ → Bool) → ((e : ℕ) → e < size → A e ≡ B e) → (k : ℕ)
-    → leading_to n entries start size A k ≡ leading_to n entries start size B k
-unfolding leading_to
-leading_same n entries start size A B h k =
-    same_truth (λ t. pair (both t).0 (pair (both (both t).1).0 (sym (h _ (less (both (both t).1).0)) ∙ (both (both t).1).1)))
-    (λ t. pair (both t).0 (pair (both (both t).1).0 (h _ (less (both (both t).1).0) ∙ (both (both t).1).1)))
 
 -- a set with the entries of a word's members but for those of a rest
 unfoldable pub gathered : Bytes → ℕ → ℕ → (ℕ → Bool) → ℕ → ℕ → Bool
@@ -144,14 +141,14 @@ module _ (entries : Bytes) (start members : ℕ) (elements : ℕ → Bool) where
 pub entry_cut : (u e : ℕ) → e < 512 → (e =? min u 512) ≡ (e =? u)
 entry_cut u e l = same_truth (λ t. let q = same t in same! (omega arith)) (λ t. let q = same t in same! (omega arith))
 
-module _ (entries : Bytes) (start : ℕ) (elements : ℕ → Bool) where
-  pub entries_none : (e : ℕ) → false ≡ entries_of 0 entries start elements e
+module _ (entries : Bytes) (elements : ℕ → Bool) where
+  pub entries_none : (e : ℕ) → false ≡ entries_of 0 entries 0 elements e
   unfolding entries_of any
   entries_none e = refl
 
   -- those of a word more
   pub entries_word : (w members : ℕ) → ((b : ℕ) → b < 64 → bit members b ≡ elements (w * 64 + b)) → (e : ℕ)
-      → adding_entries entries (start + 128 * w) members (entries_of (64 * w) entries start elements) e ≡ entries_of (64 * (w + 1)) entries start elements e
+      → adding_entries entries (128 * w) members (entries_of (64 * w) entries 0 elements) e ≡ entries_of (64 * (w + 1)) entries 0 elements e
   unfolding entries_of adding_entries
   entries_word w members bits e =
       same_truth
@@ -159,7 +156,7 @@ module _ (entries : Bytes) (start : ℕ) (elements : ℕ → Bool) where
         | inl x ↦ let k = some_of x in among (k.0, omega (arith, k.1), k.2)
         | inr x ↦
             let k = some_of x in
-            let place : start + 128 * w + 2 * k.0 ≡ start + 2 * (w * 64 + k.0) = omega arith in
+            let place : 128 * w + 2 * k.0 ≡ 0 + 2 * (w * 64 + k.0) = omega arith in
             among (
               w * 64 + k.0,
               omega (arith, k.1),
@@ -168,17 +165,41 @@ module _ (entries : Bytes) (start : ℕ) (elements : ℕ → Bool) where
       ])
       (λ t. let k = some_of t in go k.0 k.1 k.2 (dec_lt k.0 (64 * w)))
     where
-      go : (k : ℕ) → k < 64 * (w + 1) → Is (elements k and u16 entries (start + 2 * k) =? e) → Dec (k < 64 * w)
-          → Is (any (64 * w) (λ k. elements k and u16 entries (start + 2 * k) =? e) or any 64 (λ b. bit members b and u16 entries (start + 128 * w + 2 * b) =? e))
+      go : (k : ℕ) → k < 64 * (w + 1) → Is (elements k and u16 entries (0 + 2 * k) =? e) → Dec (k < 64 * w)
+          → Is (any (64 * w) (λ k. elements k and u16 entries (0 + 2 * k) =? e) or any 64 (λ b. bit members b and u16 entries (128 * w + 2 * b) =? e))
       go k l t (yes a) = one (inl (among (k, a, t)))
       go k l t (no a) =
           let at : w * 64 + (k - 64 * w) ≡ k = omega arith in
-          let place : start + 128 * w + 2 * (k - 64 * w) ≡ start + 2 * k = omega arith in
+          let place : 128 * w + 2 * (k - 64 * w) ≡ 0 + 2 * k = omega arith in
           one (inr (among (
             k - 64 * w,
             omega arith,
             pair (bits (k - 64 * w) (omega arith) ∙ ap elements at ∙ (both t).0) (same! (ap (u16 entries) place ∙ same (both t).1)),
           )))
+
+-- bytes from a place on
+pub supplied_from : (members : Bytes) (start at e : ℕ) → supplied_elements (drop start members) at e ≡ supplied_elements members (start + at) e
+unfolding supplied_elements
+supplied_from members start at e =
+    let place : start + (at + e / 8) ≡ start + at + e / 8 = omega arith in
+    ap (λ (x : ℕ). bit x (7 - e % 8)) (get_or-drop start members (at + e / 8) 0 ∙ ap (λ (x : ℕ). get_or members x 0) place)
+
+pub entry_from : (entries : Bytes) (start k : ℕ) → u16 (drop start entries) (0 + 2 * k) ≡ u16 entries (start + 2 * k)
+entry_from entries start k =
+    let low : start + (0 + 2 * k) ≡ start + 2 * k = omega arith in
+    let high : start + (0 + 2 * k + 1) ≡ start + 2 * k + 1 = omega arith in
+    ap₂ (λ (x y : ℕ). x * 256 + y)
+    (get_or-drop start entries (0 + 2 * k) 0 ∙ ap (λ (x : ℕ). get_or entries x 0) low)
+    (get_or-drop start entries (0 + 2 * k + 1) 0 ∙ ap (λ (x : ℕ). get_or entries x 0) high)
+
+pub entries_from : (n : ℕ) (entries : Bytes) (start : ℕ) (A : ℕ → Bool) (e : ℕ) → entries_of n (drop start entries) 0 A e ≡ entries_of n entries start A e
+unfolding entries_of
+entries_from n entries start A e = ap (any n) (fun_ext (λ k. ap (λ (x : ℕ). A k and x =? e) (entry_from entries start k)))
+
+pub leading_from : (n : ℕ) (entries : Bytes) (start size : ℕ) (A : ℕ → Bool) (k : ℕ)
+    → leading_to n (drop start entries) 0 size A k ≡ leading_to n entries start size A k
+unfolding leading_to
+leading_from n entries start size A k = ap (λ (x : ℕ). k <? n and x <? size and A x) (entry_from entries start k)
 
 -- a set that has just the first n elements of another
 pub entries_first : (n m : ℕ) (entries : Bytes) (start : ℕ) (A B : ℕ → Bool) → n ≤ m → ((k : ℕ) → k < m → A k ≡ (k <? n and B k)) → (e : ℕ)

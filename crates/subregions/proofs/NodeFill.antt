@@ -2,31 +2,35 @@
 -- room for them. Assumes nothing.
 use Prim.Native.Nat.{ℕ, ◌+◌, ◌-◌, ◌*◌, ◌/◌, ◌%◌, ◌≤◌, ◌<◌}
 use mathlib.Core.Path.{◌≡◌, sym, ap, ap₂, ◌∙◌}
-use mathlib.Core.List.{List}
+use mathlib.Core.Bool.{Bool}
+use mathlib.Core.List.{List, ◌++◌}
 use native.Mathlib.Nat.{mul-le-mul_right, suc-mul}
 use native.Mathlib.Numerals.{add-one}
 use native.Mathlib.Omega.{arith}
-use lib.ListN.{length, get_or}
+use lib.ListN.{length, get_or, take, drop}
+use Rattle.std.proofs.lemmas.List.{length-drop, length-take-le}
 use Rattle.model.specs.Tests.{◌and◌, ◌<?◌}
 use Rattle.model.specs.Bytes.{Bytes}
 use Rattle.model.specs.Partitions.{Partition, contiguous}
-use Rattle.model.specs.Layout.{Plan, map_count, node_count, source, target, node_a, node_b}
+use Rattle.model.specs.Layout.{Plan, map_count, node_count, source, target, supplied_region, node_a, node_b}
 use Rattle.model.specs.Nodes.{node_kind_at, node_region}
 use Rattle.model.specs.DataSets.{DataSet, data_of, pieces, size, entry_start, piece_bytes, member_start, supplied_bit, supplied}
 use Rattle.model.specs.Membership.{equal, node_sets_by, node_sets}
 use Rattle.model.specs.Words.{bit, holds, store}
-use Rattle.model.proofs.Tests.{both, pair, less!, same, same_truth}
+use Rattle.model.proofs.Tests.{both, pair, less, less!, same, same_truth}
 use Rattle.model.proofs.Words.{word_same, store_same}
 use Rattle.model.specs.AcceptedPlans.{Facts}
 use Rattle.model.proofs.Fitting.{Fit, fit, entries_there}
 use Rattle.model.proofs.NodeSets.{SuppliedNode, ImageNode, PreimageNode, supplied_node, equal_node, image_node_lem, preimage_node, region_small}
 use Rattle.model.specs.declared.NodeKind.TheVariants.{Supplied, Equal, Image, Preimage}
-use Rattle.bitsets.specs.declared.words.SetOperator.{SetOperator}
-use Rattle.bitsets.specs.Elements.{between, combination, combined, supplied_elements}
+use Rattle.bitsets.specs.Elements.{between, combined, supplied_elements}
 use Rattle.subregions.specs.declared.Span.{Span}
+use Rattle.subregions.specs.declared.sources.Sources.{Sources}
 use Rattle.subregions.specs.Pieces.{piece_words, pieces_from, supplied_pieces, equal_pieces, combined_pieces, image_pieces, preimage_pieces, SuppliedRoom, EqualRoom, CombinedRoom, ImageRoom, PreimageRoom}
-use Rattle.subregions.specs.Fill.{sets_of_words, node_filled, NodeSources}
-use Rattle.subregions.proofs.NodeOperators.{image_is, preimage_is, share_combination, sets_are, Combines, byte_is, members_near}
+use Rattle.subregions.specs.Fill.{sets_of_words, node_filled, SizeSources, NodeSources}
+use Rattle.subregions.proofs.Maps.{supplied_from, entries_from, leading_from}
+use Rattle.subregions.proofs.NodePieces.{stored_behind, holds_before, holds_from}
+use Rattle.subregions.proofs.NodeOperators.{image_is, preimage_is, share_combination, sets_are, Combines, byte_is}
 
 -- node j's operands as they are read
 pub record OperandsRead (P : Plan) (j a b : ℕ) : Type 0 where
@@ -38,8 +42,8 @@ pub operands_read : {P : Plan} {nodes : List ℕ} {j a b : ℕ} → nodes ≡ P.
 operands_read {j} is q r =
     record { a_is = q ∙ ap (λ (l : List ℕ). get_or l (j * 4 + 1) 0) is; b_is = r ∙ ap (λ (l : List ℕ). get_or l (j * 4 + 2) 0) is }
 
-module _ {P : Plan} {d : Bytes} {nodes entries members entryStarts memberStarts nodeSizes : List ℕ} {span : Span} {lent j : ℕ}
-    (H : NodeSources P d nodes entries members entryStarts memberStarts nodeSizes span lent j) where
+module _ {P : Plan} {d : Bytes} {read : Sources} {span : Span} {lent j : ℕ}
+    (H : NodeSources P d read span lent j) where
   fitted : Fit P (data_of d)
   fitted = fit P d H.sources.fits
 
@@ -59,8 +63,13 @@ module _ {P : Plan} {d : Bytes} {nodes entries members entryStarts memberStarts 
   pub few_pieces : span.count ≤ 16
   few_pieces = omega (arith, few_before)
 
-module _ {P : Plan} {d : Bytes} {nodes entries members entryStarts memberStarts nodeSizes : List ℕ} {span : Span} {j : ℕ} (words : List ℕ)
-    (H : NodeSources P d nodes entries members entryStarts memberStarts nodeSizes span (length words) j) where
+  -- the sizes are read from the section that the data set has them in
+  pub size_sources : (k : ℕ) → k < node_count P → SizeSources P d read (k + 1)
+  size_sources k lt = record { sizes_are = H.sources.sizes_are; node_regions_are = λ i l. H.sources.node_regions_are i (omega arith) }
+
+-- the words are cut where the node's begin
+module _ {P : Plan} {d : Bytes} {read : Sources} {span : Span} {j : ℕ} (words : List ℕ) (H : NodeSources P d read span (length words) j)
+    {earlier own : List ℕ} (front : earlier ≡ take (j * span.count * 8) words) (back : own ≡ drop (j * span.count * 8) words) where
   abbrev D : DataSet
   D = data_of d
 
@@ -68,181 +77,197 @@ module _ {P : Plan} {d : Bytes} {nodes entries members entryStarts memberStarts 
   abbrev N : ℕ
   N = span.count
 
+  F : Facts P
+  F = H.sources.facts
+
   -- the node's words, and those of an earlier node before them
   own_room : j * N * 8 + N * 8 ≤ length words
   own_room = omega (arith, H.sources.span_fits.enough, mul-le-mul_right N H.node_spanned, suc-mul j N)
 
+  room : N * 8 ≤ length own
+  room = omega (arith, own_room, ap length back, length-drop (j * N * 8) words)
+
+  earlier_length : length earlier ≡ j * N * 8
+  earlier_length = ap length front ∙ length-take-le (j * N * 8) words (omega (arith, own_room))
+
   earlier_room : (k : ℕ) → k < j → k * N * 8 + N * 8 ≤ j * N * 8
   earlier_room k h = omega (arith, mul-le-mul_right N h, suc-mul k N)
 
-  -- an earlier node is in the table, too
-  size_small : (k : ℕ) → k < j → get_or nodeSizes k 0 ≤ 512
-  size_small k h =
-      rw (H.node_sizes_are k (omega (arith, H.node_spanned))) (region_small P D H.sources.facts (fitted H) k (omega (arith, node_listed H)))
+  operand_there : {k : ℕ} {operand : List ℕ} → k < j → operand ≡ drop (k * N * 8) earlier → N * 8 ≤ length operand
+  operand_there {k} h q = omega (arith, ap length q, length-drop (k * N * 8) earlier, earlier_length, earlier_room k h)
+
+  size_small : (k : ℕ) → k < node_count P → size D (node_region P k) ≤ 512
+  size_small k h = region_small P D F (fitted H) k h
 
   -- what the words hold
   abbrev sets : ℕ → Partition
   sets = sets_of_words P D span words
 
-  done : (S : Partition) (new : List ℕ) → new ≡ store words (j * N * 8) (N * 8) (piece_words S)
-      → ((i e : ℕ) → i < N → e < 512 → S i e ≡ node_sets P D j sets (span.first + i) e) → new ≡ node_filled P D span words j
+  done : (S : Partition) {new : List ℕ} → new ≡ store own 0 (N * 8) (piece_words S)
+      → ((i e : ℕ) → i < N → e < 512 → S i e ≡ node_sets P D j sets (span.first + i) e) → earlier ++ new ≡ node_filled P D span words j
   unfolding node_filled piece_words
-  done S new q same =
-      q ∙ store_same words (j * N * 8) (N * 8) (piece_words S) (piece_words (pieces_from span.first (node_sets P D j sets)))
+  done S q same =
+      stored_behind words (j * N * 8) front (N * 8) (piece_words S) own_room back q
+      ∙ store_same words (j * N * 8) (N * 8) (piece_words S) (piece_words (pieces_from span.first (node_sets P D j sets)))
       (λ w l. word_same _ _ (w % 8) (λ b m. same (w / 8) (w % 8 * 64 + b) (omega arith) (omega arith)))
 
-  module _ {a b n : ℕ} (R : OperandsRead P j a b) (tabled : n ≡ get_or nodeSizes j 0) where
+  module _ {a b n : ℕ} (R : OperandsRead P j a b) (size_read : SizeSources P d read (j + 1) → n ≡ size D (node_region P j)) where
     size_is : n ≡ size D (node_region P j)
-    size_is = tabled ∙ H.node_sizes_are j H.node_spanned
-
-    F : Facts P
-    F = H.sources.facts
+    size_is = size_read (size_sources H j (node_listed H))
 
     own_size : n ≤ 512
-    own_size = rw (size_is) (region_small P D F (fitted H) j (node_listed H))
+    own_size = rw (size_is) (size_small j (node_listed H))
 
     -- supplied
-    module _ (k : node_kind_at P j ≡ Supplied) {from : ℕ} (begins : from ≡ get_or memberStarts a 0) where
+    module _ (k : node_kind_at P j ≡ Supplied) {members : List ℕ} (from_start : members ≡ drop (get_or read.member_starts.now a 0) read.members.now) where
       supplied_is : SuppliedNode P D j
       supplied_is = supplied_node P D F j (node_listed H) (byte_is P D F j (node_listed H) k)
 
-      from_is : from ≡ member_start P D (node_a P j)
-      from_is = begins ∙ ap (λ (x : ℕ). get_or memberStarts x 0) R.a_is ∙ H.sources.members_begin (node_a P j) supplied_is.listed
+      members_are : members ≡ drop (member_start P D (node_a P j)) D.members
+      members_are =
+          from_start
+          ∙ ap₂ (λ (x : ℕ) (list : List ℕ). drop x list)
+          (ap (λ (x : ℕ). get_or read.member_starts.now x 0) R.a_is ∙ H.sources.members_begin (node_a P j) supplied_is.listed) H.sources.members_are
 
-      pub supplied_room : SuppliedRoom words from n span (j * N * 8)
-      supplied_room =
-          record {
-            few_pieces = few_before H;
-            few_elements = own_size;
-            near_start = omega (arith, from_is, members_near P D F (fitted H) (node_a P j) (omega (arith, supplied_is.listed)), H.sources.limits.few_supplied, supplied_is.listed);
-            room = own_room;
-          }
+      pub supplied_room : SuppliedRoom own n span
+      supplied_room = record { few_pieces = few_before H; few_elements = own_size; room = room }
 
-      pub supplied_done : {new : List ℕ} → new ≡ store words (j * N * 8) (N * 8) (piece_words (pieces_from span.first (supplied_pieces members from n))) → new ≡ node_filled P D span words j
+      pub supplied_done : {new : List ℕ} → new ≡ store own 0 (N * 8) (piece_words (pieces_from span.first (supplied_pieces members n)))
+          → earlier ++ new ≡ node_filled P D span words j
       unfolding supplied_pieces supplied_elements supplied supplied_bit piece_bytes bit node_sets_by
       supplied_done q =
           let n-is = size_is ∙ ap (size D) supplied_is.region in
-          done _ _ q (λ i e l h. rw (sets_are P D j sets k, H.sources.members_are, from_is, n-is)
-          (same_truth (λ t. pair (less! (omega (arith, span_listed H))) t) (λ t. (both t).1)))
+          done _ q (λ i e l h. rw (sets_are P D j sets k, members_are, n-is)
+          (ap (λ (t : Bool). e <? size D (supplied_region P (node_a P j)) and t)
+          (supplied_from D.members (member_start P D (node_a P j)) ((span.first + i) * ((size D (supplied_region P (node_a P j)) + 7) / 8)) e)
+          ∙ same_truth (λ t. pair (less! (omega (arith, span_listed H))) t) (λ t. (both t).1)))
 
     -- equal
-    pub equal_room : EqualRoom words n span (j * N * 8)
+    pub equal_room : EqualRoom own n span
     equal_room =
         record {
           some_piece = rw H.sources.span_fits.pieces_are (fitted H).some_piece;
           few_pieces = rw H.sources.span_fits.pieces_are (fitted H).few_pieces;
           pieces_listed = H.sources.span_fits.pieces_listed;
           few_elements = own_size;
-          room = own_room;
+          room = room;
         }
 
-    pub equal_done : node_kind_at P j ≡ Equal → {new : List ℕ} → new ≡ store words (j * N * 8) (N * 8) (piece_words (pieces_from span.first (equal_pieces n span.pieces)))
-        → new ≡ node_filled P D span words j
+    pub equal_done : node_kind_at P j ≡ Equal → {new : List ℕ} → new ≡ store own 0 (N * 8) (piece_words (pieces_from span.first (equal_pieces n span.pieces)))
+        → earlier ++ new ≡ node_filled P D span words j
     unfolding equal_pieces between equal contiguous node_sets_by
     equal_done k q =
         let n-is = size_is ∙ ap (size D) (equal_node P D F j (node_listed H) (byte_is P D F j (node_listed H) k)).region in
-        done _ _ q (λ i e l h. rw (sets_are P D j sets k, H.sources.span_fits.pieces_are, n-is, add-one (span.first + i))
+        done _ q (λ i e l h. rw (sets_are P D j sets k, H.sources.span_fits.pieces_are, n-is, add-one (span.first + i))
         (same_truth (λ t. pair (less! (omega (arith, span_listed H))) t) (λ t. (both t).1)))
 
-    -- the words of an operand's piece
-    operand : (o i : ℕ) → o * N * 8 + i * 8 ≡ (o * N + (span.first + i - span.first)) * 8
-    operand o i = omega arith
-
-    -- what the words hold of a node
-    words_of : (x o m i e : ℕ) → x ≡ o → m ≡ size D (node_region P o) → (e <? m and holds words (x * N * 8 + i * 8) e) ≡ sets o (span.first + i) e
+    -- what the words hold of an earlier node, read off the words from its first on
+    words_of : (x o m i e : ℕ) {operand : List ℕ} → operand ≡ drop (x * N * 8) earlier → x ≡ o → o < j → m ≡ size D (node_region P o) → i < N
+        → (e <? m and holds operand (i * 8) e) ≡ sets o (span.first + i) e
     unfolding sets_of_words
-    words_of x o m i e p q = ap₂ (λ (u v : ℕ). e <? u and holds words v e) q (operand x i ∙ ap (λ (y : ℕ). (y * N + (span.first + i - span.first)) * 8) p)
+    words_of x o m i e {operand} cut p before q l =
+        let small : m ≤ 512 = rw q (size_small o (omega (arith, node_listed H))) in
+        let place : x * N * 8 + i * 8 ≡ (o * N + (span.first + i - span.first)) * 8 = rw p (omega arith) in
+        let inside : x * N * 8 + i * 8 + 8 ≤ j * N * 8 = rw p (omega (arith, earlier_room o before)) in
+        let held : e < m → holds operand (i * 8) e ≡ holds words ((o * N + (span.first + i - span.first)) * 8) e =
+        λ h. holds_from earlier (x * N * 8) cut (i * 8) e ∙ holds_before words (j * N * 8) front (x * N * 8 + i * 8) e inside (omega arith) ∙ ap (λ (at : ℕ). holds words at e) place
+        in
+        same_truth
+        (λ t. pair (both t).0 (sym (held (less (both t).0)) ∙ (both t).1))
+        (λ t. pair (both t).0 (held (less (both t).0) ∙ (both t).1))
+        ∙ ap (λ (v : ℕ). e <? v and holds words ((o * N + (span.first + i - span.first)) * 8) e) q
 
     -- union, intersection, difference
-    module _ {operator : SetOperator} (node : Combines P D j operator) where
-      pub combined_room : CombinedRoom words (a * N * 8) (b * N * 8) N (j * N * 8)
+    module _ {combination : Bool → Bool → Bool} (node : Combines P D j combination) {left right : List ℕ}
+        (at_left : left ≡ drop (a * N * 8) earlier) (at_right : right ≡ drop (b * N * 8) earlier) where
+      pub combined_room : CombinedRoom own left right N
       combined_room =
           record {
-            few_pieces = few_pieces H;
-            left_before = earlier_room a (rw R.a_is node.left_earlier);
-            right_before = earlier_room b (rw R.b_is node.right_earlier);
-            room = own_room;
+            room = room;
+            left_there = operand_there (rw R.a_is node.left_earlier) at_left;
+            right_there = operand_there (rw R.b_is node.right_earlier) at_right;
           }
 
-      pub combined_done : {new : List ℕ} → new ≡ store words (j * N * 8) (N * 8) (piece_words (combined_pieces words operator (a * N * 8) (b * N * 8) n))
-          → new ≡ node_filled P D span words j
-      unfolding combined_pieces combined sets_of_words
+      pub combined_done : {new : List ℕ} → new ≡ store own 0 (N * 8) (piece_words (combined_pieces left right combination n))
+          → earlier ++ new ≡ node_filled P D span words j
+      unfolding combined_pieces combined
       combined_done q =
-          done _ _ q (λ i e l h. share_combination operator (e <? n) _ _
-          ∙ ap₂ (combination operator)
-          (words_of a (node_a P j) n i e R.a_is (size_is ∙ ap (size D) node.left_region))
-          (words_of b (node_b P j) n i e R.b_is (size_is ∙ ap (size D) node.right_region))
+          done _ q (λ i e l h. share_combination combination node.neither (e <? n) _ _
+          ∙ ap₂ combination
+          (words_of a (node_a P j) n i e at_left R.a_is node.left_earlier (size_is ∙ ap (size D) node.left_region) l)
+          (words_of b (node_b P j) n i e at_right R.b_is node.right_earlier (size_is ∙ ap (size D) node.right_region) l)
           ∙ sym (node.sets sets (span.first + i) e))
 
-    -- where a map's entries begin, and the size of an operand's region
-    map_start : {start : ℕ} → start ≡ get_or entryStarts b 0 → node_b P j < map_count P → start ≡ entry_start P D (node_b P j)
-    map_start begins listed = begins ∙ ap (λ (x : ℕ). get_or entryStarts x 0) R.b_is ∙ H.sources.entries_begin (node_b P j) listed
+    -- a map's entries from where they begin, and the size of an operand's region
+    module _ {entries : List ℕ} (from_start : entries ≡ drop (get_or read.entry_starts.now b 0) read.entries.now) where
+      map_entries : node_b P j < map_count P → entries ≡ drop (entry_start P D (node_b P j)) D.entries
+      map_entries listed =
+          from_start
+          ∙ ap₂ (λ (x : ℕ) (list : List ℕ). drop x list)
+          (ap (λ (x : ℕ). get_or read.entry_starts.now x 0) R.b_is ∙ H.sources.entries_begin (node_b P j) listed) H.sources.entries_are
 
-    operand_size : {m r : ℕ} → m ≡ get_or nodeSizes a 0 → node_a P j < j → node_region P (node_a P j) ≡ r → m ≡ size D r
-    operand_size tabled earlier region =
-        tabled ∙ ap (λ (x : ℕ). get_or nodeSizes x 0) R.a_is ∙ H.node_sizes_are (node_a P j) (omega (arith, H.node_spanned)) ∙ ap (size D) region
+      map_room : (listed : node_b P j < map_count P) → 2 * size D (source P (node_b P j)) ≤ length entries
+      map_room listed =
+          omega (arith, ap length (map_entries listed), length-drop (entry_start P D (node_b P j)) D.entries, entries_there P D (fitted H) (node_b P j) listed)
 
-    -- image
-    module _ (k : node_kind_at P j ≡ Image) {start count : ℕ} (begins : start ≡ get_or entryStarts b 0) (counted : count ≡ get_or nodeSizes a 0) where
-      image_of : ImageNode P D j
-      image_of = image_node_lem P D F j (node_listed H) (byte_is P D F j (node_listed H) k)
+      operand_size : {m r : ℕ} → (SizeSources P d read (a + 1) → m ≡ size D (node_region P a)) → node_a P j < j → node_region P (node_a P j) ≡ r → m ≡ size D r
+      operand_size read_size before region =
+          read_size (size_sources H a (omega (arith, R.a_is, node_listed H))) ∙ ap (λ (x : ℕ). size D (node_region P x)) R.a_is ∙ ap (size D) region
 
-      image_start : start ≡ entry_start P D (node_b P j)
-      image_start = map_start begins image_of.map_listed
+      module _ {operand : List ℕ} (at_operand : operand ≡ drop (a * N * 8) earlier) {m : ℕ} (sized : SizeSources P d read (a + 1) → m ≡ size D (node_region P a)) where
+        -- image
+        module _ (k : node_kind_at P j ≡ Image) where
+          image_of : ImageNode P D j
+          image_of = image_node_lem P D F j (node_listed H) (byte_is P D F j (node_listed H) k)
 
-      image_count : count ≡ size D (source P (node_b P j))
-      image_count = operand_size counted image_of.earlier image_of.operand_region_lem
+          image_count : m ≡ size D (source P (node_b P j))
+          image_count = operand_size sized image_of.earlier image_of.operand_region_lem
 
-      pub image_room : ImageRoom words entries start count (a * N * 8) N (j * N * 8)
-      image_room =
-          record {
-            few_pieces = few_pieces H;
-            operand_before = earlier_room a (rw R.a_is image_of.earlier);
-            room = own_room;
-            few_elements = rw (counted, R.a_is) (size_small (node_a P j) image_of.earlier);
-            entries_inside = rw (image_start, image_count, H.sources.entries_are) (entries_there P D (fitted H) (node_b P j) image_of.map_listed);
-          }
+          pub image_room : ImageRoom own operand entries m N
+          image_room =
+              record {
+                room = room;
+                operand_there = operand_there (rw R.a_is image_of.earlier) at_operand;
+                few_elements = rw (image_count, ← image_of.operand_region_lem) (size_small (node_a P j) (omega (arith, image_of.earlier, node_listed H)));
+                entries_there = rw image_count (map_room image_of.map_listed);
+              }
 
-      pub image_done : {new : List ℕ} → new ≡ store words (j * N * 8) (N * 8) (piece_words (image_pieces words entries start count (a * N * 8)))
-          → new ≡ node_filled P D span words j
-      unfolding image_pieces node_sets_by
-      image_done q =
-          done _ _ q (λ i e l h. rw (sets_are P D j sets k, image_count, image_start, H.sources.entries_are)
-          (image_is P D (node_b P j) (sets (node_a P j)) (span.first + i) _
-          (λ x. words_of a (node_a P j) _ i x R.a_is (ap (size D) (sym image_of.operand_region_lem))) e h))
+          pub image_done : {new : List ℕ} → new ≡ store own 0 (N * 8) (piece_words (image_pieces operand entries m)) → earlier ++ new ≡ node_filled P D span words j
+          unfolding image_pieces node_sets_by
+          image_done q =
+              done _ q (λ i e l h. rw (sets_are P D j sets k, image_count, map_entries image_of.map_listed)
+              (entries_from _ D.entries _ _ e
+              ∙ image_is P D (node_b P j) (sets (node_a P j)) (span.first + i) _
+              (λ x. words_of a (node_a P j) _ i x at_operand R.a_is image_of.earlier (ap (size D) (sym image_of.operand_region_lem)) l) e h))
 
-    -- preimage
-    module _ (k : node_kind_at P j ≡ Preimage) {start operandSize : ℕ} (begins : start ≡ get_or entryStarts b 0) (tabled-a : operandSize ≡ get_or nodeSizes a 0) where
-      preimage_of : PreimageNode P D j
-      preimage_of = preimage_node P D F j (node_listed H) (byte_is P D F j (node_listed H) k)
+        -- preimage
+        module _ (k : node_kind_at P j ≡ Preimage) where
+          preimage_of : PreimageNode P D j
+          preimage_of = preimage_node P D F j (node_listed H) (byte_is P D F j (node_listed H) k)
 
-      preimage_start : start ≡ entry_start P D (node_b P j)
-      preimage_start = map_start begins preimage_of.map_listed
+          preimage_count : n ≡ size D (source P (node_b P j))
+          preimage_count = size_is ∙ ap (size D) preimage_of.region
 
-      preimage_count : n ≡ size D (source P (node_b P j))
-      preimage_count = size_is ∙ ap (size D) preimage_of.region
+          preimage_size : m ≡ size D (target P (node_b P j))
+          preimage_size = operand_size sized preimage_of.earlier preimage_of.operand_region_lem
 
-      preimage_size : operandSize ≡ size D (target P (node_b P j))
-      preimage_size = operand_size tabled-a preimage_of.earlier preimage_of.operand_region_lem
+          target_small : m ≤ 512
+          target_small = rw (preimage_size, ← preimage_of.operand_region_lem) (size_small (node_a P j) (omega (arith, preimage_of.earlier, node_listed H)))
 
-      target_small : operandSize ≤ 512
-      target_small = rw (tabled-a, R.a_is) (size_small (node_a P j) preimage_of.earlier)
+          pub preimage_room : PreimageRoom own operand entries n m N
+          preimage_room =
+              record {
+                room = room;
+                operand_there = operand_there (rw R.a_is preimage_of.earlier) at_operand;
+                few_elements = own_size;
+                few_targets = target_small;
+                entries_there = rw preimage_count (map_room preimage_of.map_listed);
+              }
 
-      pub preimage_room : PreimageRoom words entries start n operandSize (a * N * 8) N (j * N * 8)
-      preimage_room =
-          record {
-            few_pieces = few_pieces H;
-            operand_before = earlier_room a (rw R.a_is preimage_of.earlier);
-            room = own_room;
-            few_elements = own_size;
-            few_targets = target_small;
-            entries_inside = rw (preimage_start, preimage_count, H.sources.entries_are) (entries_there P D (fitted H) (node_b P j) preimage_of.map_listed);
-          }
-
-      pub preimage_done : {new : List ℕ} → new ≡ store words (j * N * 8) (N * 8) (piece_words (preimage_pieces words entries start n operandSize (a * N * 8)))
-          → new ≡ node_filled P D span words j
-      unfolding preimage_pieces node_sets_by
-      preimage_done q =
-          done _ _ q (λ i e l h. rw (sets_are P D j sets k, preimage_count, preimage_start, preimage_size, H.sources.entries_are)
-          (preimage_is P D (node_b P j) (sets (node_a P j)) (span.first + i) _ (rw (← preimage_size) target_small)
-          (λ x. words_of a (node_a P j) _ i x R.a_is (ap (size D) (sym preimage_of.operand_region_lem))) e))
+          pub preimage_done : {new : List ℕ} → new ≡ store own 0 (N * 8) (piece_words (preimage_pieces operand entries n m)) → earlier ++ new ≡ node_filled P D span words j
+          unfolding preimage_pieces node_sets_by
+          preimage_done q =
+              done _ q (λ i e l h. rw (sets_are P D j sets k, preimage_count, preimage_size, map_entries preimage_of.map_listed)
+              (leading_from _ D.entries _ _ _ e
+              ∙ preimage_is P D (node_b P j) (sets (node_a P j)) (span.first + i) _ (rw (← preimage_size) target_small)
+              (λ x. words_of a (node_a P j) _ i x at_operand R.a_is preimage_of.earlier (ap (size D) (sym preimage_of.operand_region_lem)) l) e))

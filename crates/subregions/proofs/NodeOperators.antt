@@ -5,7 +5,7 @@ use mathlib.Core.Path.{◌≡◌, refl, sym, ap, ◌∙◌}
 use mathlib.Core.Logic.{inl, inr}
 use mathlib.Core.Bool.{Bool, true, false}
 use native.Mathlib.Omega.{arith}
-use Rattle.model.specs.Tests.{◌and◌, ◌or◌, ◌=?◌, ◌<?◌, non}
+use Rattle.model.specs.Tests.{◌and◌, ◌=?◌, ◌<?◌}
 use Rattle.model.specs.Partitions.{Partition, union, intersection, difference, image, preimage}
 use Rattle.model.specs.Layout.{Plan, supplied_count, node_count, source, target, supplied_region, node_kind, node_a, node_b}
 use Rattle.model.specs.Nodes.{SUPPLIED, EQUAL, UNION, INTERSECTION, DIFFERENCE, IMAGE, PREIMAGE, node_kind_of, node_kind_at, node_region}
@@ -17,9 +17,8 @@ use Rattle.model.proofs.Fitting.{Fit}
 use Rattle.model.proofs.NodeSets.{TwoOperands, union_node, intersection_node, difference_node, kind_known}
 use Rattle.model.specs.declared.NodeKind.{NodeKind}
 use Rattle.model.specs.declared.NodeKind.TheVariants.{Supplied, Equal, Union, Intersection, Difference, Image, Preimage, Unknown}
-use Rattle.bitsets.specs.declared.words.SetOperator.{SetOperator}
-use Rattle.bitsets.specs.declared.words.SetOperator.TheVariants as set
-use Rattle.bitsets.specs.Elements.{combination, entries_of, leading_to}
+use Rattle.bitsets.specs.Elements as set
+use Rattle.bitsets.specs.Elements.{entries_of, leading_to}
 use Rattle.primitives.proofs.Bits.{refute}
 use Rattle.subregions.proofs.NodePieces.{product}
 
@@ -67,14 +66,10 @@ module _ (P : Plan) (D : DataSet) (m : ℕ) (A : Partition) (i : ℕ) (S : ℕ �
       pair (both to).0 (rw (same (both to).1) (is e.0 ∙ (both e.2).1)))
 
 -- a test taken out of both operands
-pub share_combination : (operator : SetOperator) (s x y : Bool) → (s and combination operator x y) ≡ combination operator (s and x) (s and y)
-unfolding combination ◌and◌ ◌or◌ non
-share_combination set.Union true x y = refl
-share_combination set.Union false x y = refl
-share_combination set.Intersection true x y = refl
-share_combination set.Intersection false x y = refl
-share_combination set.Difference true x y = refl
-share_combination set.Difference false x y = refl
+pub share_combination : (combination : Bool → Bool → Bool) → combination false false ≡ false → (s x y : Bool) → (s and combination x y) ≡ combination (s and x) (s and y)
+unfolding ◌and◌
+share_combination combination neither true x y = refl
+share_combination combination neither false x y = sym neither
 
 -- a node's sets, by its kind
 pub sets_are : (P : Plan) (D : DataSet) (j : ℕ) (H : ℕ → Partition) {kind : NodeKind} → node_kind_at P j ≡ kind → node_sets P D j H ≡ node_sets_by P D kind j H
@@ -93,12 +88,13 @@ byte_of Preimage = PREIMAGE
 byte_of Unknown = 7
 
 -- a union, an intersection or a difference, by what all three have in common
-pub record Combines (P : Plan) (D : DataSet) (j : ℕ) (operator : SetOperator) : Type 0 where
+pub record Combines (P : Plan) (D : DataSet) (j : ℕ) (combination : Bool → Bool → Bool) : Type 0 where
   pub left_earlier : node_a P j < j
   pub right_earlier : node_b P j < j
   pub left_region : node_region P j ≡ node_region P (node_a P j)
   pub right_region : node_region P j ≡ node_region P (node_b P j)
-  pub sets : (H : ℕ → Partition) (i e : ℕ) → node_sets P D j H i e ≡ combination operator (H (node_a P j) i e) (H (node_b P j) i e)
+  pub neither : combination false false ≡ false
+  pub sets : (H : ℕ → Partition) (i e : ℕ) → node_sets P D j H i e ≡ combination (H (node_a P j) i e) (H (node_b P j) i e)
 
 module _ (P : Plan) (D : DataSet) (F : Facts P) (j : ℕ) (lt : j < node_count P) where
   pub byte_is : {kind : NodeKind} → node_kind_at P j ≡ kind → node_kind P j ≡ byte_of kind
@@ -110,28 +106,30 @@ module _ (P : Plan) (D : DataSet) (F : Facts P) (j : ℕ) (lt : j < node_count P
   pub known_kind : node_kind_at P j ≡ Unknown → ⊥
   known_kind k = let byte = byte_is k in omega (arith, kind_known P D F j lt)
 
-  combining : {kind : NodeKind} {operator : SetOperator} {combined : Partition → Partition → Partition} → TwoOperands P D j combined → node_kind_at P j ≡ kind
-      → ((H : ℕ → Partition) (i e : ℕ) → node_sets_by P D kind j H i e ≡ combination operator (H (node_a P j) i e) (H (node_b P j) i e)) → Combines P D j operator
-  combining n k by_kind =
+  combining : {kind : NodeKind} {combination : Bool → Bool → Bool} {combined : Partition → Partition → Partition} → TwoOperands P D j combined → node_kind_at P j ≡ kind
+      → combination false false ≡ false
+      → ((H : ℕ → Partition) (i e : ℕ) → node_sets_by P D kind j H i e ≡ combination (H (node_a P j) i e) (H (node_b P j) i e)) → Combines P D j combination
+  combining n k neither by_kind =
       record {
         left_earlier = n.left_earlier;
         right_earlier = n.right_earlier;
         left_region = n.left_region;
         right_region = n.right_region;
+        neither = neither;
         sets = λ H i e. ap (λ (partition : Partition). partition i e) (sets_are P D j H k) ∙ by_kind H i e;
       }
 
-  pub unites : node_kind_at P j ≡ Union → Combines P D j set.Union
-  unfolding combination node_sets_by union
-  unites k = combining (union_node P D F j lt (byte_is k)) k (λ H i e. refl)
+  pub unites : node_kind_at P j ≡ Union → Combines P D j set.union
+  unfolding node_sets_by union
+  unites k = combining (union_node P D F j lt (byte_is k)) k set.neither-union (λ H i e. refl)
 
-  pub intersects : node_kind_at P j ≡ Intersection → Combines P D j set.Intersection
-  unfolding combination node_sets_by intersection
-  intersects k = combining (intersection_node P D F j lt (byte_is k)) k (λ H i e. refl)
+  pub intersects : node_kind_at P j ≡ Intersection → Combines P D j set.intersection
+  unfolding node_sets_by intersection
+  intersects k = combining (intersection_node P D F j lt (byte_is k)) k set.neither-intersection (λ H i e. refl)
 
-  pub subtracts : node_kind_at P j ≡ Difference → Combines P D j set.Difference
-  unfolding combination node_sets_by difference
-  subtracts k = combining (difference_node P D F j lt (byte_is k)) k (λ H i e. refl)
+  pub subtracts : node_kind_at P j ≡ Difference → Combines P D j set.difference
+  unfolding node_sets_by difference
+  subtracts k = combining (difference_node P D F j lt (byte_is k)) k set.neither-difference (λ H i e. refl)
 
 -- where supplied members begin is near
 module _ (P : Plan) (D : DataSet) (F : Facts P) (fit : Fit P D) where

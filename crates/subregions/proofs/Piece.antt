@@ -2,19 +2,20 @@
 use Prim.Native.Nat.{ℕ, ◌+◌, ◌-◌, ◌*◌, ◌/◌, ◌%◌, ◌^◌, ◌≤◌, ◌<◌}
 use mathlib.Core.Path.{◌≡◌, refl, sym, ap, ap₂, ◌∙◌}
 use mathlib.Core.Bool.{Bool, false}
-use mathlib.Core.List.{List}
+use mathlib.Core.List.{List, ◌++◌}
 use native.Mathlib.Nat.{mod-lt}
 use native.Mathlib.Omega.{arith}
 use lib.Bits.{bit_and, bit_or, and_le_l, or_lt}
-use lib.ListN.{length, get_or, set, replicate, length-set, length-replicate, get_or-replicate}
+use lib.ListN.{length, get_or, set, take, drop, replicate, length-set, length-replicate, get_or-replicate}
+use borrow.Rule.Slice.PartMut.{put_mid}
+use Rattle.std.proofs.lemmas.List.{length-append, length-drop, length-take, length-take-le, get_or_append_left, get_or-append_right, get_or-take, get_or-drop}
 use lib.Seq.{get_or-set_same, get_or-set_other}
 use native.Mathlib.Decide.{ℕ_discrete, dec_lt}
 use Rattle.model.specs.Tests.{◌and◌, ◌or◌, ◌=?◌}
 use Rattle.model.specs.Bytes.{byte}
 use Rattle.model.specs.Words.{bit, holds, from_bits, word, store}
 use Rattle.model.proofs.Words.{bit_zero, bit_number, number_less, is_word, holds-bit, store_length, store_next, store_inside, store_outside, is_store}
-use Rattle.bitsets.specs.declared.words.SetOperator.{SetOperator}
-use Rattle.bitsets.specs.Elements.{PieceOf, combination, combined_bits, combined, masked, supplied_elements, bytes_bits, reversed_bits}
+use Rattle.bitsets.specs.Elements.{PieceOf, combined_bits, combined, masked, supplied_elements, bytes_bits, reversed_bits}
 use Rattle.subregions.specs.Operators.{no_word, SetOf, OperandSet}
 use Rattle.primitives.proofs.Bits.{and_swap, bit-bit_and}
 use Rattle.bitsets.proofs.Elements.{added}
@@ -41,6 +42,31 @@ module _ (old : List ℕ) (at : ℕ) (value : ℕ → ℕ) where
 
   pub written_all : (new : List ℕ) (w : ℕ) → Written old at value new w → 8 ≤ w → new ≡ store old at 8 value
   written_all new w h l = let all : w ≡ 8 = omega arith in h.words_are ∙ ap (λ (n : ℕ). store old at n value) all
+
+-- eight words of 0 put in
+pub cleared : (old part : List ℕ) (at k : ℕ) → at + 8 ≤ length old → k ≡ 8 → part ≡ replicate 8 0 → put_mid at k old part ≡ store old at 8 no_word
+cleared old part at k room q zeros =
+    rw (q, zeros) (is_store (take at old ++ (replicate 8 0 ++ drop 8 (drop at old))) old at 8 no_word (omega (arith, whole)) room
+    (λ j l.
+    let place : at + j - at ≡ j = omega arith in
+    get_or-append_right (take at old) _ at (at + j) 0 first (omega arith) ∙ ap (λ (x : ℕ). get_or (replicate 8 0 ++ drop 8 (drop at old)) x 0) place
+    ∙ get_or_append_left (replicate 8 0) _ 0 j (omega (arith, l)) ∙ get_or-replicate {A = ℕ} 8 j 0 0 l)
+    (λ i o. go i o (dec_lt i at)))
+  where
+    first : length (take at old) ≡ at
+    first = length-take-le at old (omega arith)
+
+    whole : length (take at old ++ (replicate 8 0 ++ drop 8 (drop at old))) ≡ at + (8 + (length old - at - 8))
+    whole = simp (length-append, length-drop) (omega (arith, first))
+
+    go : (i : ℕ) → (at ≤ i → i < at + 8 → ⊥) → Dec (i < at) → get_or (take at old ++ (replicate 8 0 ++ drop 8 (drop at old))) i 0 ≡ get_or old i 0
+    go i o (yes l) = get_or_append_left (take at old) _ 0 i (omega (arith, first)) ∙ get_or-take at old i 0 l
+    go i o (no l) =
+        let far : (i < at + 8 → ⊥) = λ m. o (omega arith) m in
+        let here : at + (8 + (i - at - 8)) ≡ i = omega arith in
+        get_or-append_right (take at old) _ at i 0 first (omega arith)
+        ∙ get_or-append_right (replicate 8 0) _ 8 (i - at) 0 (length-replicate {A = ℕ} 8 0) (omega arith)
+        ∙ get_or-drop 8 (drop at old) (i - at - 8) 0 ∙ get_or-drop at old (8 + (i - at - 8)) 0 ∙ ap (λ (x : ℕ). get_or old x 0) here
 
 -- so many words of a piece made, the others 0
 pub record Made (elements : ℕ → Bool) (piece : List ℕ) (w : ℕ) : Type 0 where
@@ -75,9 +101,6 @@ module _ (elements : ℕ → Bool) where
       go : (k : ℕ) → k < 8 → Dec (k < w) → get_or piece k 0 ≡ word elements k
       go k l (yes m) = h.word_is k m
       go k l (no m) = h.rest k (omega arith) l ∙ left k (omega arith) l
-
-  pub made_all : (piece : List ℕ) (w : ℕ) → Made elements piece w → 8 ≤ w → PieceOf elements piece
-  made_all piece w h l = made_to piece w h (λ k m r. absurd (omega arith))
 
 -- a cleared piece with so many of its words written, the others still 0
 pub record Begun (old : List ℕ) (at : ℕ) (elements : ℕ → Bool) (new : List ℕ) (w : ℕ) : Type 0 where
@@ -154,13 +177,15 @@ module _ (T : ℕ → Bool) where
         holds_is = λ e l. added words n e (omega (arith, h.nine)) ∙ ap (λ (t : Bool). t or e =? n) (h.holds_is e l) ∙ same e l;
       }
 
-  pub set_piece : (words : List ℕ) → SetOf T words → PieceOf T words
-  set_piece words h =
+  -- its first eight words
+  pub set_piece : (words piece : List ℕ) → piece ≡ take 8 words → SetOf T words → PieceOf T piece
+  set_piece words piece first h =
       record {
-        eight = omega (arith, h.nine);
+        eight = omega (arith, ap length first, length-take 8 words, h.nine);
         word_is = λ w l.
             let here : 0 + w ≡ w = omega arith in
-            is_word (get_or words w 0) T w (h.small w (omega arith))
+            ap (λ (list : List ℕ). get_or list w 0) first ∙ get_or-take 8 words w 0 l
+            ∙ is_word (get_or words w 0) T w (h.small w (omega arith))
             (λ b m. ap (λ (k : ℕ). bit (get_or words k 0) b) (sym here) ∙ sym (holds-bit words 0 w b m) ∙ h.holds_is (w * 64 + b) (omega arith));
       }
 
@@ -185,13 +210,14 @@ masked-bit words masks a w b l =
     ∙ and_swap _ _
 
 -- a word of two pieces combined
-pub combined-word : (words masks : List ℕ) (operator : SetOperator) (a b w x : ℕ) → x ≡ from_bits 64 (combined_bits operator (get_or words (a + w) 0) (get_or words (b + w) 0))
-    → bit_and x (get_or masks w 0) ≡ word (masked masks (combined operator (holds words a) (holds words b))) w
+pub combined-word : (left right masks : List ℕ) (combination : Bool → Bool → Bool) (at w x : ℕ)
+    → x ≡ from_bits 64 (combined_bits combination (get_or left (at + w) 0) (get_or right (at + w) 0))
+    → bit_and x (get_or masks w 0) ≡ word (masked masks (combined combination (holds left at) (holds right at))) w
 unfolding combined combined_bits
-combined-word words masks operator a b w x h =
-    masked-word masks (combined operator (holds words a) (holds words b)) w x (rw h (number_less 64 (combined_bits operator (get_or words (a + w) 0) (get_or words (b + w) 0))))
-    (λ e l. ap (λ (y : ℕ). bit y e) h ∙ bit_number 64 (combined_bits operator (get_or words (a + w) 0) (get_or words (b + w) 0)) e l
-    ∙ ap₂ (combination operator) (sym (holds-bit words a w e l)) (sym (holds-bit words b w e l)))
+combined-word left right masks combination at w x h =
+    masked-word masks (combined combination (holds left at) (holds right at)) w x (rw h (number_less 64 (combined_bits combination (get_or left (at + w) 0) (get_or right (at + w) 0))))
+    (λ e l. ap (λ (y : ℕ). bit y e) h ∙ bit_number 64 (combined_bits combination (get_or left (at + w) 0) (get_or right (at + w) 0)) e l
+    ∙ ap₂ combination (sym (holds-bit left at w e l)) (sym (holds-bit right at w e l)))
 
 -- a word of eight bytes, each in reverse order
 pub supplied_word : (masks members : List ℕ) (from w x y : ℕ) → x ≡ from_bits 64 (bytes_bits members (from + 8 * w)) → y ≡ from_bits 64 (reversed_bits x)

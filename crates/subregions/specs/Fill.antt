@@ -1,5 +1,5 @@
 -- What filling the words means: node by node, each from the sets that the words before it hold.
-use Rattle.std.specs.Prelude.{ℕ, zero, suc, ◌+◌, ◌-◌, ◌*◌, ◌/◌, ◌%◌, ◌≤◌, ◌<◌, ◌≡◌, List, get_or}
+use Rattle.std.specs.Prelude.{ℕ, zero, suc, ◌+◌, ◌-◌, ◌*◌, ◌/◌, ◌%◌, ◌≤◌, ◌<◌, ◌≡◌, List, get_or, Ok}
 use Rattle.model.specs.Tests.{◌and◌, pick, ◌<?◌}
 use Rattle.model.specs.Bytes.{Bytes}
 use Rattle.model.specs.Partitions.{Partition}
@@ -9,8 +9,8 @@ use Rattle.model.specs.DataSets.{DataSet, data_of, pieces, size, entry_start, me
 use Rattle.model.specs.Membership.{node_sets, member}
 use Rattle.model.specs.Words.{bit, holds, word, store}
 use Rattle.model.specs.AcceptedPlans.{Facts, Limits}
-use Rattle.model.specs.declared.Outcome.TheVariants.{Pass}
 use Rattle.subregions.specs.declared.Span.{Span}
+use Rattle.subregions.specs.declared.sources.Sources.{Sources}
 use Rattle.subregions.specs.Needed.{OperandsNeeded}
 use Rattle.subregions.specs.Pieces.{piece_words, pieces_from}
 
@@ -48,45 +48,38 @@ module _ (P : Plan) (D : DataSet) where
       pub pieces_listed : span.first + span.count ≤ span.pieces
       pub enough : span.nodes * span.count * 8 ≤ lent
 
-  -- a table has the sizes of the first nodes' regions
-  abbrev pub NodeSizes : List ℕ → ℕ → Type 0
-  NodeSizes table count = (j : ℕ) → j < count → get_or table j 0 ≡ size D (node_region P j)
-
 -- what the sizes of the first nodes' regions are read from
-pub record SizeSources (P : Plan) (d : Bytes) (sizes node_regions : List ℕ) (count : ℕ) : Type 0 where
-  pub sizes_are : sizes ≡ (data_of d).sizes
-  pub node_regions_are : (j : ℕ) → j < count → get_or node_regions j 0 ≡ node_region P j
+pub record SizeSources (P : Plan) (d : Bytes) (read : Sources) (count : ℕ) : Type 0 where
+  pub sizes_are : read.sizes.now ≡ (data_of d).sizes
+  pub node_regions_are : (j : ℕ) → j < count → get_or read.node_regions.now j 0 ≡ node_region P j
 
 -- an accepted plan, data that fit it, a span of both with words enough, and what the fills read of them
-pub record FillSources (P : Plan) (d : Bytes) (nodes node_regions sizes entries members entryStarts memberStarts : List ℕ) (span : Span) (lent : ℕ) : Type 0 where
+pub record FillSources (P : Plan) (d : Bytes) (read : Sources) (span : Span) (lent : ℕ) : Type 0 where
   pub facts : Facts P
   pub limits : Limits P
-  pub fits : data_check P d ≡ Pass
+  pub fits : data_check P d ≡ Ok tt
   pub span_fits : SpanFits P (data_of d) span lent
-  pub nodes_are : nodes ≡ P.nodes
-  pub node_regions_are : (j : ℕ) → j < node_count P → get_or node_regions j 0 ≡ node_region P j
-  pub sizes_are : sizes ≡ (data_of d).sizes
-  pub entries_are : entries ≡ (data_of d).entries
-  pub members_are : members ≡ (data_of d).members
-  pub entries_begin : (m : ℕ) → m < map_count P → get_or entryStarts m 0 ≡ entry_start P (data_of d) m
-  pub members_begin : (k : ℕ) → k < supplied_count P → get_or memberStarts k 0 ≡ member_start P (data_of d) k
+  pub nodes_are : read.nodes.now ≡ P.nodes
+  pub node_regions_are : (j : ℕ) → j < node_count P → get_or read.node_regions.now j 0 ≡ node_region P j
+  pub sizes_are : read.sizes.now ≡ (data_of d).sizes
+  pub entries_are : read.entries.now ≡ (data_of d).entries
+  pub members_are : read.members.now ≡ (data_of d).members
+  pub entries_begin : (m : ℕ) → m < map_count P → get_or read.entry_starts.now m 0 ≡ entry_start P (data_of d) m
+  pub members_begin : (k : ℕ) → k < supplied_count P → get_or read.member_starts.now k 0 ≡ member_start P (data_of d) k
 
 -- the span can be filled
-pub record FillReady (nodes node_regions sizes entries members entryStarts memberStarts : List ℕ) (span : Span) (lent : ℕ) : Type 0 where
+pub record FillReady (read : Sources) (span : Span) (lent : ℕ) : Type 0 where
   pub plan : Plan
   pub bytes : Bytes
-  pub sources : FillSources plan bytes nodes node_regions sizes entries members entryStarts memberStarts span lent
+  pub sources : FillSources plan bytes read span lent
 
--- a node of the span, and the table of the sizes that were read from the sizes' section
-pub record NodeSources (P : Plan) (d : Bytes) (nodes entries members entryStarts memberStarts nodeSizes : List ℕ) (span : Span) (lent j : ℕ) : Type 0 where
-  pub node_regions : List ℕ
-  pub sizes : List ℕ
-  pub sources : FillSources P d nodes node_regions sizes entries members entryStarts memberStarts span lent
-  pub node_sizes_are : NodeSizes P (data_of d) nodeSizes span.nodes
+-- a node of the span
+pub record NodeSources (P : Plan) (d : Bytes) (read : Sources) (span : Span) (lent j : ℕ) : Type 0 where
+  pub sources : FillSources P d read span lent
   pub node_spanned : j < span.nodes
 
 -- node j can be filled
-pub record NodeReady (nodes entries members entryStarts memberStarts nodeSizes : List ℕ) (span : Span) (lent j : ℕ) : Type 0 where
+pub record NodeReady (read : Sources) (span : Span) (lent j : ℕ) : Type 0 where
   pub plan : Plan
   pub bytes : Bytes
-  pub sources : NodeSources plan bytes nodes entries members entryStarts memberStarts nodeSizes span lent j
+  pub sources : NodeSources plan bytes read span lent j

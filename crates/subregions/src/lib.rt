@@ -5,10 +5,11 @@ pub mod fill;
 pub mod needed;
 mod operators;
 mod pieces;
+pub mod sources;
 
 // Which sets are filled: of the first `nodes` nodes, where they are needed (node j's bit j), those of `count` pieces from
 // piece `first` on, out of `pieces`.
-#[derive(Clone, Copy)]
+#[derive(Clone, Copy, Debug, PartialEq, Eq)]
 pub struct Span {
     pub nodes: usize,
     pub needed: u64,

@@ -8,8 +8,9 @@ use model::NodeKind;
 use primitives::bytes::byte_at;
 use primitives::records::node_kind;
 
-// Every node, of 64 at most.
-pub const ALL_NODES: u64 = 0xFFFF_FFFF_FFFF_FFFF;
+// Every node, of 64 at most. A set of nodes is one word and no type of its own: `has_bit`, `one_bit` and `|` serve it as they
+// serve each word of a set of elements, and a type would say them again.
+pub const ALL_NODES: u64 = u64::MAX;
 
 // The operands of node j.
 fn operand_bits(nodes: &[u8], j: usize) -> u64
@@ -37,11 +38,9 @@ pub fn needed_nodes(nodes: &[u8], count: usize, wanted: u64) -> u64
     ensures { (P : Plan) → NodesRead P nodes.now count → NeededFor P count wanted result }
 {
     let mut needed = wanted;
-    let mut j = count;
-    while j > 0 {
-        j -= 1;
+    for j in (0..count).rev() {
         if has_bit(needed, j) {
-            needed = needed | operand_bits(nodes, j);
+            needed |= operand_bits(nodes, j);
         }
     }
     needed

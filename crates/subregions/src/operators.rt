@@ -1,26 +1,20 @@
 // The operators on one piece: its eight words are made from numbers, bytes, or the words of earlier pieces.
-ghost use Rattle.std.specs.Prelude.{◌≡◌, ◌+◌, ◌*◌, ◌≤◌, ◌<◌, min, length};
+ghost use Rattle.std.specs.Prelude.{◌≡◌, ◌+◌, ◌*◌, ◌^◌, ◌≤◌, ◌<◌, min, length};
 ghost use Rattle.model.specs.Bytes.{u16};
 ghost use Rattle.model.specs.Words as Words;
 ghost use Rattle.model.specs.Words.{digit, from_bits, word, store};
 ghost use Rattle.bitsets.specs.Elements.{between, masked, combined, supplied_elements, bytes_bits, entries_of, through, word_at, PieceOf};
-ghost use Rattle.subregions.specs.Operators.{no_word, WriteRoom, RangeRoom, PieceBytesRoom, SuppliedPieceRoom, CombinedPieceRoom, EntriesRoom, EntriesAdded, ImagePieceRoom, TargetsTable, OperandSet, LookupRoom, PreimagePieceRoom};
+ghost use Rattle.subregions.specs.Operators.{no_word, RangeRoom, PieceBytesRoom, CombinedPieceRoom, EntriesRoom, EntriesAdded, ImagePieceRoom, TargetsTable, OperandSet, ElementsTable, PreimagePieceRoom};
 
 use bitsets::words::{
-    SetOperator, bit_of, combine, eight_bytes, inside_bytes, lowest, reverse_bytes, u16_inside,
-    word_between,
+    SetOperator, bit_of, eight_bytes, inside_bytes, lowest, reverse_bytes, u16_inside, word_between,
 };
+use std::array;
 
-// An entry of a table as a number.
-fn wide(x: u16) -> usize
-    ensures { result ≡ x }
-{
-    x as usize
-}
-
-// The piece at word `at` becomes the first eight words of another.
-pub fn write_piece(words: &mut [u64], at: usize, piece: &[u64])
-    requires { WriteRoom words.old piece.now at }
+// The piece at word `at` becomes another. Word by word: `copy_from_slice` would have the other
+// piece's words stored first, to be copied from there.
+pub fn write_piece(words: &mut [u64], at: usize, piece: &[u64; 8])
+    requires { at + 8 ≤ length words.old }
     ensures { words.new ≡ store words.old at 8 (word_at piece.now) }
 {
     for w in 0..8 {
@@ -33,9 +27,7 @@ fn clear_piece(words: &mut [u64], at: usize)
     requires { at + 8 ≤ length words.old }
     ensures { words.new ≡ store words.old at 8 no_word }
 {
-    for k in 0..8 {
-        words[at + k] = 0;
-    }
+    words[at..at + 8].fill(0);
 }
 
 // The piece at word `at` becomes the elements from low up to, not including, high. Only the words that have one are
@@ -45,6 +37,7 @@ pub fn write_range(words: &mut [u64], at: usize, low: usize, high: usize)
     ensures { words.new ≡ store words.old at 8 (word (between low high)) }
 {
     clear_piece(words, at);
+    // By a `while`: a `for` up to `high.div_ceil(64)` is 5 % slower, since its turns don't know that they are below `high`.
     let mut w = low / 64;
     while 64 * w < high {
         words[at + w] = word_between(low, high, w);
@@ -52,7 +45,7 @@ pub fn write_range(words: &mut [u64], at: usize, low: usize, high: usize)
     }
 }
 
-// Eight of a piece's bytes, which may all be known to be there.
+// Eight of a piece's bytes, which may all be known to be there: that is tested once for a piece, and not for each word.
 fn piece_bytes(members: &[u8], at: usize, inside: bool) -> u64
     requires { PieceBytesRoom members.now at inside }
     ensures { result ≡ from_bits 64 (bytes_bits members.now at) }
@@ -65,101 +58,73 @@ fn piece_bytes(members: &[u8], at: usize, inside: bool) -> u64
 }
 
 // The set that a supplied partition's bytes list, within the mask.
-pub fn supplied_piece(members: &[u8], masks: &[u64], from: usize) -> [u64; 8]
-    requires { SuppliedPieceRoom masks.now from }
+pub fn supplied_piece(members: &[u8], masks: &[u64; 8], from: usize) -> [u64; 8]
+    requires { from < 2 ^ 31 }
     ensures { PieceOf (masked masks.now (supplied_elements members.now from)) result }
 {
     let inside = from + 64 <= members.len();
-    let mut piece = [0; 8];
-    let mut w = 0;
-    while w < 8 {
-        piece[w] = reverse_bytes(piece_bytes(members, from + 8 * w, inside)) & masks[w];
-        w += 1;
-    }
-    piece
+    array::from_fn(|w| reverse_bytes(piece_bytes(members, from + 8 * w, inside)) & masks[w])
 }
 
-// The union, intersection or difference of the pieces at a and b, within the mask.
-pub fn combined_piece(
-    words: &[u64],
-    masks: &[u64],
-    operator: SetOperator,
-    a: usize,
-    b: usize,
+// The pieces at a place of two operands combined, within the mask.
+pub fn combined_piece<O: SetOperator>(
+    left: &[u64],
+    right: &[u64],
+    masks: &[u64; 8],
+    at: usize,
 ) -> [u64; 8]
-    requires { CombinedPieceRoom words.now masks.now a b }
-    ensures { PieceOf (masked masks.now (combined operator (Words.holds words.now a) (Words.holds words.now b))) result }
+    requires { CombinedPieceRoom left.now right.now at }
+    ensures { PieceOf (masked masks.now (combined O.combination (Words.holds left.now at) (Words.holds right.now at))) result }
 {
-    let mut piece = [0; 8];
-    let mut w = 0;
-    while w < 8 {
-        piece[w] = combine(operator, words[a + w], words[b + w]) & masks[w];
-        w += 1;
-    }
-    piece
+    array::from_fn(|w| O::combine(left[at + w], right[at + w]) & masks[w])
 }
 
-// The smaller of two numbers.
-pub fn least(a: usize, b: usize) -> usize
-    ensures { result ≡ min a b }
-{
-    if a < b { a } else { b }
-}
-
-// The element that an entry leads to; 512 where it leads to none.
-fn target(entries: &[u8], at: usize) -> usize
+// The element that an entry leads to; 512 where it leads to none, and no `Option`: element 512 has a spare word, so that no
+// entry is tested.
+fn target(entries: &[u8], at: usize) -> u16
     requires { at + 2 ≤ length entries.now }
     ensures { result ≡ min (u16 entries.now at) 512 }
 {
-    least(u16_inside(entries, at) as usize, 512)
+    u16_inside(entries, at).min(512)
 }
 
 // The elements that a map's entries lead to.
-pub fn targets(entries: &[u8], start: usize, count: usize) -> [u16; 512]
-    requires { (count ≤ 512) × (start + 2 * count ≤ length entries.now) }
-    ensures { TargetsTable entries.now start count result }
+pub fn targets(entries: &[u8], count: usize) -> [u16; 512]
+    requires { (count ≤ 512) × (2 * count ≤ length entries.now) }
+    ensures { TargetsTable entries.now count result }
 {
     let mut table = [512; 512];
-    let mut k = 0;
-    while k < count {
-        table[k] = target(entries, start + 2 * k) as u16;
-        k += 1;
+    for k in 0..count {
+        table[k] = target(entries, 2 * k);
     }
     table
 }
 
-// The elements of the piece at a, within the mask, and a spare word for element 512.
-pub fn operand_set(words: &[u64], masks: &[u64], a: usize) -> [u64; 9]
-    requires { (a + 8 ≤ length words.now) × (8 ≤ length masks.now) }
-    ensures { OperandSet words.now masks.now a result }
+// The elements of a piece of an operand, within the mask, and a spare word for element 512.
+pub fn operand_set(operand: &[u64], masks: &[u64; 8], at: usize) -> [u64; 9]
+    requires { at + 8 ≤ length operand.now }
+    ensures { OperandSet operand.now masks.now at result }
 {
-    let mut set = [0; 9];
-    let mut w = 0;
-    while w < 8 {
-        set[w] = words[a + w] & masks[w];
-        w += 1;
-    }
-    set
+    array::from_fn(|w| if w < 8 { operand[at + w] & masks[w] } else { 0 })
 }
 
 // Whether a set holds the element that a table has for place k: 1 or 0.
-fn member_at(table: &[u16], set: &[u64], k: usize) -> u64
-    requires { (k < 512) × LookupRoom table.now set.now }
+fn member_at(table: &[u16; 512], set: &[u64; 9], k: usize) -> u64
+    requires { (k < 512) × ElementsTable table.now }
     ensures { result ≡ digit (through table.now set.now k) }
 {
-    bit_of(set, 0, wide(table[k]))
+    bit_of(set, 0, usize::from(table[k]))
 }
 
 // Word w of the places whose element is in the set, two places at a time from the highest down.
-fn preimage_word(table: &[u16], set: &[u64], w: usize) -> u64
-    requires { (w < 8) × LookupRoom table.now set.now }
+#[tactic(auto, using(crate::proofs::Maps::upper_end, crate::proofs::Maps::upper_two, crate::proofs::Maps::upper_all))]
+fn preimage_word(table: &[u16; 512], set: &[u64; 9], w: usize) -> u64
+    requires { (w < 8) × ElementsTable table.now }
     ensures { result ≡ word (through table.now set.now) w }
 {
-    let mut pairs = 32;
-    let mut result: u64 = 0;
-    while pairs > 0 {
-        pairs -= 1;
-        let place = 64 * w + 2 * pairs;
+    let mut result = 0;
+    for pair in (0..32).rev() {
+        let place = 64 * w + 2 * pair;
         let upper = (result << 1) | member_at(table, set, place + 1);
         result = (upper << 1) | member_at(table, set, place);
     }
@@ -167,15 +132,13 @@ fn preimage_word(table: &[u16], set: &[u64], w: usize) -> u64
 }
 
 // The places whose element is in the set; the words from place `count` on stay 0.
-pub fn preimage_piece(table: &[u16], set: &[u64], count: usize) -> [u64; 8]
+pub fn preimage_piece(table: &[u16; 512], set: &[u64; 9], count: usize) -> [u64; 8]
     requires { PreimagePieceRoom table.now set.now count }
     ensures { PieceOf (through table.now set.now) result }
 {
     let mut piece = [0; 8];
-    let mut w = 0;
-    while 64 * w < count {
+    for w in 0..count.div_ceil(64) {
         piece[w] = preimage_word(table, set, w);
-        w += 1;
     }
     piece
 }
@@ -185,25 +148,24 @@ fn add_entries(set: &mut [u64; 9], entries: &[u8], start: usize, members: u64)
     requires { EntriesRoom entries.now start members }
     ensures { EntriesAdded entries.now start members set.old set.new }
 {
+    // By a `while`: it goes over the bits that are set, and counts nothing.
     let mut rest = members;
     while rest != 0 {
-        let e = target(entries, start + 2 * lowest(rest));
-        set[e / 64] = set[e / 64] | (1 << (e % 64));
-        rest = rest & (rest - 1);
+        let e = usize::from(target(entries, start + 2 * lowest(rest)));
+        set[e / 64] |= 1 << (e % 64);
+        rest &= rest - 1;
     }
 }
 
-// The image of the elements within the mask of the piece at a, and a spare word; the entries begin at a place.
-pub fn image_piece(words: &[u64], entries: &[u8], masks: &[u64], start: usize, a: usize) -> [u64; 9]
-    requires { ImagePieceRoom words.now entries.now masks.now start a }
-    ensures { PieceOf (entries_of 512 entries.now start (masked masks.now (Words.holds words.now a))) result }
+// The image of the elements within the mask of a piece of an operand.
+pub fn image_piece(operand: &[u64], entries: &[u8], masks: &[u64; 8], at: usize) -> [u64; 8]
+    requires { ImagePieceRoom operand.now entries.now masks.now at }
+    ensures { PieceOf (entries_of 512 entries.now 0 (masked masks.now (Words.holds operand.now at))) result }
 {
+    // Entries that lead to no element go into a spare word.
     let mut set = [0; 9];
-    let mut w = 0;
-    while w < 8 {
-        let members = words[a + w] & masks[w];
-        add_entries(&mut set, entries, start + 128 * w, members);
-        w += 1;
+    for w in 0..8 {
+        add_entries(&mut set, entries, 128 * w, operand[at + w] & masks[w]);
     }
-    set
+    *set.first_chunk().unwrap()
 }

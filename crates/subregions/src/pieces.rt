@@ -1,35 +1,46 @@
-// The operators on a node's pieces, one after the other: eight words each, from word `at` on.
-ghost use Rattle.std.specs.Prelude.{◌≡◌, ◌+◌, ◌*◌, ◌≤◌, min};
-ghost use Rattle.model.specs.Words.{store};
-ghost use Rattle.bitsets.specs.declared.words.SetOperator.TheVariants.{Union, Intersection, Difference};
-ghost use Rattle.subregions.specs.Pieces.{piece_words, pieces_from, supplied_pieces, equal_pieces, combined_pieces, image_pieces, preimage_pieces, SuppliedRoom, EqualRoom, CombinedRoom, ImageRoom, PreimageRoom};
+// The operators on a node's pieces, one after the other: eight words each, from the first of a node's words on.
+// Words, count and size are parameters each: the words are lent anew for each node (project's form), and size means another
+// region in each.
+ghost use Rattle.std.specs.Prelude.{◌≡◌, ℕ, ◌+◌, ◌*◌, ◌≤◌, ◌<◌, min, length};
+ghost use Rattle.model.specs.Words.{holds, store};
+ghost use Rattle.bitsets.specs.Elements.{masked, combined, supplied_elements, entries_of, PieceOf};
+ghost use Rattle.subregions.specs.Operators.{CombinedPieceRoom, ImagePieceRoom, TargetsRoom, PreimagePieceOf};
+ghost use Rattle.subregions.specs.Pieces.{piece_words, pieces_from, PiecesMade, supplied_pieces, equal_pieces, combined_pieces, image_pieces, preimage_pieces, SuppliedRoom, EqualRoom, CombinedRoom, ImageRoom, PreimageRoom};
 
 use crate::Span;
 use crate::operators::{
-    combined_piece, image_piece, least, operand_set, preimage_piece, supplied_piece, targets,
-    write_piece, write_range,
+    combined_piece, image_piece, operand_set, preimage_piece, supplied_piece, targets, write_piece,
+    write_range,
 };
 use bitsets::words::{SetOperator, region_masks};
 
-// The span's pieces of a supplied partition, whose bytes begin at a place.
-pub fn fill_supplied(
-    words: &mut [u64],
-    members: &[u8],
-    from: usize,
-    size: usize,
-    span: Span,
-    at: usize,
-)
-    requires { SuppliedRoom words.old from size span at }
-    ensures { words.new ≡ store words.old at (span.count * 8) (piece_words (pieces_from span.first (supplied_pieces members.now from size))) }
+// The first `count` pieces become what is made for each.
+fn fill_pieces<F: Fn(usize) -> [u64; 8]>(words: &mut [u64], count: usize, piece: F)
+    requires room { count * 8 ≤ length words.old }
+    requires callable { (i : ℕ) → i < count → F.pre piece i }
+    ensures { PiecesMade (F.post piece) words.old count words.new }
+{
+    for i in 0..count {
+        write_piece(words, i * 8, &piece(i));
+    }
+}
+
+// The span's pieces of a supplied partition.
+pub fn fill_supplied(words: &mut [u64], members: &[u8], size: usize, span: Span)
+    requires { SuppliedRoom words.old size span }
+    ensures { words.new ≡ store words.old 0 (span.count * 8) (piece_words (pieces_from span.first (supplied_pieces members.now size))) }
 {
     let masks = region_masks(size);
-    let bytes = (size + 7) / 8;
+    let bytes = size.div_ceil(8);
     let first = span.first;
-    for i in 0..span.count {
-        let piece = supplied_piece(members, &masks, from + (first + i) * bytes);
-        write_piece(words, at + i * 8, &piece);
-    }
+    fill_pieces(
+        words,
+        span.count,
+        |i: usize| -> [u64; 8]
+            requires { (first + i < 16) × (bytes ≤ 64) }
+            ensures { PieceOf (masked masks (supplied_elements members.entry.now ((first + i) * bytes))) result }
+        { supplied_piece(members, &masks, (first + i) * bytes) },
+    );
 }
 
 // Where a piece of an equal partition starts: the first pieces are one element longer.
@@ -37,114 +48,85 @@ fn equal_start(quotient: usize, remainder: usize, i: usize) -> usize
     requires { (quotient ≤ 512) × (i ≤ 16) }
     ensures { result ≡ quotient * i + min i remainder }
 {
-    quotient * i + least(i, remainder)
+    quotient * i + i.min(remainder)
 }
 
-// The span's pieces of an equal partition.
-pub fn fill_equal(words: &mut [u64], size: usize, span: Span, at: usize)
-    requires { EqualRoom words.old size span at }
-    ensures { words.new ≡ store words.old at (span.count * 8) (piece_words (pieces_from span.first (equal_pieces size span.pieces))) }
+// The span's pieces of an equal partition, each written where it stays.
+pub fn fill_equal(words: &mut [u64], size: usize, span: Span)
+    requires { EqualRoom words.old size span }
+    ensures { words.new ≡ store words.old 0 (span.count * 8) (piece_words (pieces_from span.first (equal_pieces size span.pieces))) }
 {
     let pieces = span.pieces;
     let first = span.first;
     let quotient = size / pieces;
     let remainder = size % pieces;
+    let mut low = equal_start(quotient, remainder, first);
     for i in 0..span.count {
-        let low = equal_start(quotient, remainder, first + i);
         let high = equal_start(quotient, remainder, first + i + 1);
-        write_range(words, at + i * 8, low, high);
+        write_range(words, i * 8, low, high);
+        low = high;
     }
 }
 
-// The unions of the pieces from a and from b on, within a region's size. Each operator has a loop of its own, so that
-// the compiler combines a piece's words two at a time without a test.
-pub fn fill_union(words: &mut [u64], a: usize, b: usize, size: usize, pieces: usize, at: usize)
-    requires { CombinedRoom words.old a b pieces at }
-    ensures { words.new ≡ store words.old at (pieces * 8) (piece_words (combined_pieces words.old Union a b size)) }
-{
-    let masks = region_masks(size);
-    for i in 0..pieces {
-        let piece = combined_piece(words, &masks, SetOperator::Union, a + i * 8, b + i * 8);
-        write_piece(words, at + i * 8, &piece);
-    }
-}
-
-// The intersections of the pieces from a and from b on, within a region's size.
-pub fn fill_intersection(
+// The pieces of two operands combined, within a region's size.
+pub fn fill_combined<O: SetOperator>(
     words: &mut [u64],
-    a: usize,
-    b: usize,
+    left: &[u64],
+    right: &[u64],
     size: usize,
-    pieces: usize,
-    at: usize,
-)
-    requires { CombinedRoom words.old a b pieces at }
-    ensures { words.new ≡ store words.old at (pieces * 8) (piece_words (combined_pieces words.old Intersection a b size)) }
-{
-    let masks = region_masks(size);
-    for i in 0..pieces {
-        let piece = combined_piece(
-            words,
-            &masks,
-            SetOperator::Intersection,
-            a + i * 8,
-            b + i * 8,
-        );
-        write_piece(words, at + i * 8, &piece);
-    }
-}
-
-// The differences of the pieces from a and from b on, within a region's size.
-pub fn fill_difference(words: &mut [u64], a: usize, b: usize, size: usize, pieces: usize, at: usize)
-    requires { CombinedRoom words.old a b pieces at }
-    ensures { words.new ≡ store words.old at (pieces * 8) (piece_words (combined_pieces words.old Difference a b size)) }
-{
-    let masks = region_masks(size);
-    for i in 0..pieces {
-        let piece = combined_piece(words, &masks, SetOperator::Difference, a + i * 8, b + i * 8);
-        write_piece(words, at + i * 8, &piece);
-    }
-}
-
-// The images of the pieces from a on, under a map of so many source elements.
-pub fn fill_image(
-    words: &mut [u64],
-    entries: &[u8],
-    start: usize,
     count: usize,
-    a: usize,
-    pieces: usize,
-    at: usize,
 )
-    requires { ImageRoom words.old entries.now start count a pieces at }
-    ensures { words.new ≡ store words.old at (pieces * 8) (piece_words (image_pieces words.old entries.now start count a)) }
+    requires { CombinedRoom words.old left.now right.now count }
+    ensures { words.new ≡ store words.old 0 (count * 8) (piece_words (combined_pieces left.now right.now O.combination size)) }
 {
-    let masks = region_masks(count);
-    for i in 0..pieces {
-        let piece = image_piece(words, entries, &masks, start, a + i * 8);
-        write_piece(words, at + i * 8, &piece);
-    }
+    let masks = region_masks(size);
+    fill_pieces(
+        words,
+        count,
+        |i: usize| -> [u64; 8]
+            requires { CombinedPieceRoom left.now right.now (i * 8) }
+            ensures { PieceOf (masked masks (combined O.combination (holds left.entry.now (i * 8)) (holds right.entry.now (i * 8)))) result }
+        { combined_piece::<O>(left, right, &masks, i * 8) },
+    );
 }
 
-// The preimages of the pieces from a on, of a region of a size, under a map of so many source elements.
+// The images of an operand's pieces under the entries of a map, of which its region has as many as elements.
+pub fn fill_image(words: &mut [u64], operand: &[u64], entries: &[u8], elements: usize, count: usize)
+    requires { ImageRoom words.old operand.now entries.now elements count }
+    ensures { words.new ≡ store words.old 0 (count * 8) (piece_words (image_pieces operand.now entries.now elements)) }
+{
+    let masks = region_masks(elements);
+    fill_pieces(
+        words,
+        count,
+        |i: usize| -> [u64; 8]
+            requires { ImagePieceRoom operand.now entries.now masks (i * 8) }
+            ensures { PieceOf (entries_of 512 entries.entry.now 0 (masked masks (holds operand.entry.now (i * 8)))) result }
+        { image_piece(operand, entries, &masks, i * 8) },
+    );
+}
+
+// The preimages of the pieces of an operand in a region of a size, under the entries of a map from a region of so many
+// elements.
 pub fn fill_preimage(
     words: &mut [u64],
+    operand: &[u64],
     entries: &[u8],
-    start: usize,
-    count: usize,
+    elements: usize,
     size: usize,
-    a: usize,
-    pieces: usize,
-    at: usize,
+    count: usize,
 )
-    requires { PreimageRoom words.old entries.now start count size a pieces at }
-    ensures { words.new ≡ store words.old at (pieces * 8) (piece_words (preimage_pieces words.old entries.now start count size a)) }
+    requires { PreimageRoom words.old operand.now entries.now elements size count }
+    ensures { words.new ≡ store words.old 0 (count * 8) (piece_words (preimage_pieces operand.now entries.now elements size)) }
 {
     let masks = region_masks(size);
-    let table = targets(entries, start, count);
-    for i in 0..pieces {
-        let set = operand_set(words, &masks, a + i * 8);
-        let piece = preimage_piece(&table, &set, count);
-        write_piece(words, at + i * 8, &piece);
-    }
+    let table = targets(entries, elements);
+    fill_pieces(
+        words,
+        count,
+        |i: usize| -> [u64; 8]
+            requires { (i * 8 + 8 ≤ length operand.now) × TargetsRoom table elements }
+            ensures { PreimagePieceOf operand.entry.now masks table (i * 8) result }
+        { preimage_piece(&table, &operand_set(operand, &masks, i * 8), elements) },
+    );
 }

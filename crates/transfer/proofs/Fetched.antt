@@ -6,9 +6,7 @@ use mathlib.Core.List.{List}
 use native.Mathlib.Nat.{mul-le-mul_right, suc-mul}
 use native.Mathlib.Omega.{arith}
 use lib.ListN.{length}
-use Rattle.model.specs.Bytes.{Bytes}
-use Rattle.model.specs.Layout.{plan_of}
-use Rattle.model.specs.DataSets.{data_of, pieces}
+use Rattle.model.specs.DataSets.{pieces}
 use Rattle.model.specs.Membership.{member}
 use lib.Bits.{bit_or}
 use Rattle.model.specs.Tests.{Is}
@@ -21,17 +19,17 @@ use Rattle.model.proofs.Tests.{one}
 use Rattle.primitives.proofs.Bits.{bit-bit_or}
 use Rattle.bitsets.specs.Elements.{OneBit}
 use Rattle.model.proofs.Counting.{sum_same}
-use Rattle.model.proofs.Fitting.{fit}
 use Rattle.model.proofs.Transfers.{ones_are_fetched}
-use Rattle.plan.specs.declared.Reading.{Reading}
-use Rattle.dataset.specs.declared.layout.DataLayout.{DataLayout}
+use Rattle.evaluate.specs.Inputs.{plan_given, data_given}
 use Rattle.evaluate.specs.Words.{WantedFilled}
+use Rattle.evaluate.specs.declared.inputs.Inputs.{Inputs}
+use Rattle.evaluate.proofs.Spans.{inputs_fit}
 use Rattle.transfer.specs.Fetching.{RoomReady}
 
-module _ {p d : Bytes} {reading : Reading} {layout : DataLayout} {t : Transfer} {nodes lent : ℕ}
-    (ready : RoomReady p reading d layout t nodes lent) {x y : ℕ} (first : OneBit t.accessed x) (second : OneBit t.owned y) {words : List ℕ}
-    (filled : WantedFilled (plan_of p) (data_of d) nodes (bit_or x y) lent words) {N : ℕ} (counted : N ≡ pieces (data_of d)) where
-  pub both_exist : BothExist (plan_of p) t
+module _ {inputs : Inputs} {t : Transfer} {nodes lent : ℕ}
+    (ready : RoomReady inputs t nodes lent) {x y : ℕ} (first : OneBit t.accessed x) (second : OneBit t.owned y) {words : List ℕ}
+    (filled : WantedFilled (plan_given inputs) (data_given inputs) nodes (bit_or x y) lent words) {N : ℕ} (counted : N ≡ pieces (data_given inputs)) where
+  pub both_exist : BothExist (plan_given inputs) t
   both_exist =
       record {
         accessed_exists = omega (arith, ready.accessed_among, ready.room.nodes_listed);
@@ -45,7 +43,7 @@ module _ {p d : Bytes} {reading : Reading} {layout : DataLayout} {t : Transfer} 
       omega (arith, filled.room, mul-le-mul_right N l, suc-mul j N)
 
   few_nodes : nodes ≤ 48
-  few_nodes = omega (arith, ready.room.nodes_listed, ready.room.inputs.accepted.limits.few_nodes)
+  few_nodes = omega (arith, ready.room.nodes_listed, inputs.reading.sections.limits.few_nodes)
 
   -- both nodes are wanted
   accessed_wanted : Is (bit (bit_or x y) t.accessed)
@@ -54,7 +52,7 @@ module _ {p d : Bytes} {reading : Reading} {layout : DataLayout} {t : Transfer} 
   owned_wanted : Is (bit (bit_or x y) t.owned)
   owned_wanted = bit-bit_or x y _ ∙ one (inr (second.its_bit (omega (arith, ready.owned_among, few_nodes))))
 
-  held : (j i e : ℕ) → (j ≡ t.accessed) ⊎ (j ≡ t.owned) → i < N → e < 512 → holds words ((j * N + i) * 8) e ≡ member (plan_of p) (data_of d) j i e
+  held : (j i e : ℕ) → (j ≡ t.accessed) ⊎ (j ≡ t.owned) → i < N → e < 512 → holds words ((j * N + i) * 8) e ≡ member (plan_given inputs) (data_given inputs) j i e
   held j i e (inl is) li le =
       rw (is, counted) (filled.held t.accessed i e ready.accessed_among accessed_wanted (rw counted at li) le)
   held j i e (inr is) li le =
@@ -69,6 +67,6 @@ module _ {p d : Bytes} {reading : Reading} {layout : DataLayout} {t : Transfer} 
       place : (j i : ℕ) → j * N * 8 + i * 8 ≡ (j * N + i) * 8
       place j i = omega arith
 
-  pub ones_counted : sum N (λ i. ones_lacking words (t.accessed * N * 8 + i * 8) (t.owned * N * 8 + i * 8)) ≡ transfer_count (plan_of p) (data_of d) t
+  pub ones_counted : sum N (λ i. ones_lacking words (t.accessed * N * 8 + i * 8) (t.owned * N * 8 + i * 8)) ≡ transfer_count (plan_given inputs) (data_given inputs) t
   ones_counted =
-      in_order ∙ ones_are_fetched (plan_of p) (data_of d) ready.room.inputs.accepted.facts (fit (plan_of p) d ready.room.inputs.fits) t both_exist words N counted held
+      in_order ∙ ones_are_fetched (plan_given inputs) (data_given inputs) inputs.reading.facts (inputs_fit inputs) t both_exist words N counted held

@@ -1,45 +1,24 @@
 // The elements that are fetched, counted in the words of the two nodes.
 ghost use Rattle.std.specs.Prelude.{◌≡◌, ◌≤◌, length};
-ghost use Rattle.model.specs.Layout.{plan_of};
-ghost use Rattle.model.specs.DataSets.{data_of};
 ghost use Rattle.model.specs.Transfers.{transfer_count};
-ghost use Rattle.transfer.specs.Fetching.{TransferReady, RoomReady, Later};
+ghost use Rattle.model.specs.Fetches.{BothExist};
+ghost use Rattle.evaluate.specs.Inputs.{plan_given, data_given};
+ghost use Rattle.transfer.specs.Fetching.{RoomReady};
 
 use bitsets::counts::lacking_pieces;
 use bitsets::words::one_bit;
-use dataset::cells::piece_count;
-use dataset::layout::DataLayout;
+use evaluate::inputs::Inputs;
 use evaluate::words::fill_wanted;
 use model::Transfer;
-use plan::Reading;
-
-// The later of the two nodes.
-pub fn later_node(transfer: Transfer) -> usize
-    ensures { Later transfer result }
-{
-    if transfer.accessed < transfer.owned {
-        transfer.owned
-    } else {
-        transfer.accessed
-    }
-}
 
 // Counts by way of words that have room for the first nodes, the two among them.
-fn count_in(
-    plan: &[u8],
-    reading: Reading,
-    data: &[u8],
-    layout: DataLayout,
-    transfer: Transfer,
-    nodes: usize,
-    words: &mut [u64],
-) -> usize
-    requires { RoomReady plan.now reading «data».now layout transfer nodes (length words.old) }
-    ensures { result ≡ transfer_count (plan_of plan.now) (data_of «data».now) transfer }
+fn count_in(inputs: &Inputs, transfer: Transfer, nodes: usize, words: &mut [u64]) -> usize
+    requires { RoomReady inputs.now transfer nodes (length words.old) }
+    ensures { (result ≡ transfer_count (plan_given inputs.now) (data_given inputs.now) transfer) × (result ≤ 8192) }
 {
     let wanted = one_bit(transfer.accessed) | one_bit(transfer.owned);
-    fill_wanted(plan, reading, data, layout, nodes, wanted, words);
-    let pieces = piece_count(data);
+    fill_wanted(inputs, nodes, wanted, words);
+    let pieces = inputs.layout.pieces;
     lacking_pieces(
         words,
         transfer.accessed * pieces * 8,
@@ -48,31 +27,26 @@ fn count_in(
     )
 }
 
+// Counts by way of so many words of its own.
+fn count_with<const WORDS: usize>(inputs: &Inputs, transfer: Transfer, nodes: usize) -> usize
+    requires { RoomReady inputs.now transfer nodes WORDS × (WORDS ≤ 6144) }
+    ensures { (result ≡ transfer_count (plan_given inputs.now) (data_given inputs.now) transfer) × (result ≤ 8192) }
+{
+    let mut words = [0u64; WORDS];
+    count_in(inputs, transfer, nodes, &mut words)
+}
+
 // Counts the fetched elements. Clearing words for 48 nodes is felt in a small plan's charge, so few are taken where few are
 // enough.
-pub fn count_fetched(
-    plan: &[u8],
-    reading: Reading,
-    data: &[u8],
-    layout: DataLayout,
-    transfer: Transfer,
-) -> usize
-    requires { TransferReady plan.now reading «data».now layout transfer }
-    ensures { (result ≡ transfer_count (plan_of plan.now) (data_of «data».now) transfer) × (result ≤ 8192) }
+pub fn count_fetched(inputs: &Inputs, transfer: Transfer) -> usize
+    requires { BothExist (plan_given inputs.now) transfer }
+    ensures { (result ≡ transfer_count (plan_given inputs.now) (data_given inputs.now) transfer) × (result ≤ 8192) }
 {
-    let nodes = later_node(transfer) + 1;
-    let needed = nodes * piece_count(data) * 8;
-    if needed <= 64 {
-        let mut words = [0u64; 64];
-        count_in(plan, reading, data, layout, transfer, nodes, &mut words)
-    } else if needed <= 512 {
-        let mut words = [0u64; 512];
-        count_in(plan, reading, data, layout, transfer, nodes, &mut words)
-    } else if needed <= 2048 {
-        let mut words = [0u64; 2048];
-        count_in(plan, reading, data, layout, transfer, nodes, &mut words)
-    } else {
-        let mut words = [0u64; 6144];
-        count_in(plan, reading, data, layout, transfer, nodes, &mut words)
+    let nodes = transfer.accessed.max(transfer.owned) + 1;
+    match nodes * inputs.layout.pieces * 8 {
+        0..=64 => count_with::<64>(inputs, transfer, nodes),
+        65..=512 => count_with::<512>(inputs, transfer, nodes),
+        513..=2048 => count_with::<2048>(inputs, transfer, nodes),
+        _ => count_with::<6144>(inputs, transfer, nodes),
     }
 }

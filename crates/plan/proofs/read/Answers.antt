@@ -1,15 +1,13 @@
--- The frame that was read is the plan's, and its layout passes; else the layout's refusal is the verdict (Verdict). Assumes nothing.
-use mathlib.Core.Path.{refl, sym, ◌∙◌, ap}
-use Rattle.layout.proofs.Frames.{laid}
-use Rattle.plan.proofs.Verdict.{refused_promise}
+-- The records passed, so what each of them is is known, and there are as many symbols as assignments (Verdict). Assumes nothing.
+use Rattle.std.proofs.Common.{◌≡◌, Ok, arith, rules}
+use Rattle.model.specs.Verdict.{records_check}
+use Rattle.model.proofs.Accepted.{facts}
+use Rattle.layout.specs.Sections.{plan_in}
+use Rattle.plan.proofs.Verdict.{symbols_counted}
 use Rattle.plan.proofs.read.Goals as goal
 
-pub read_records-requires : goal.read_records-requires
-read_records-requires c = laid _ c.read_frame-framed.ensures c.in-Pass.is
-
-pub returns-in-Pass : goal.returns-in-Pass
-returns-in-Pass c = c.read_records.ensures
-
-pub returns-in-Refuse : goal.returns-in-Refuse
-returns-in-Refuse c =
-    refused_promise _ _ (sym (ap (λ framed. framed.outcome) c.read_frame-framed.ensures) ∙ c.in-Refuse.is) refl
+pub invariant_of-result : goal.invariant_of-result
+invariant_of-result c =
+    let P = plan_in c.in_ok-sections.sections in
+    let passed : records_check P ≡ Ok tt = grind arith in
+    record { counted = rw (symbols_counted P passed); facts = facts P passed; regions_known = search rules }

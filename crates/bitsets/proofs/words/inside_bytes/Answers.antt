@@ -1,11 +1,10 @@
--- The four pairs of bytes make up the eight. Assumes nothing.
+-- The library's eight bytes are the word's. Assumes nothing.
+use Rattle.std.proofs.Common.{rules, ◌≡◌, ◌∙◌, ◌+◌, ◌<◌, ℕ, get_or}
+use Rattle.model.specs.Bytes.{byte}
 use Rattle.bitsets.proofs.ByteOrder.{eight_word}
 use Rattle.bitsets.proofs.words.inside_bytes.Goals as goal
 
 pub returns : goal.returns
 returns c =
-    eight_word c.args.s.now c.args.at _ _ _ _ (λ i. (c.shared_slice_known-1.given i).fits)
-    c.two_bytes.ensures
-    c.two_bytes-2.ensures
-    c.two_bytes-3.ensures
-    c.two_bytes-4.ensures
+    let read : (i : ℕ) → i < 8 → get_or c.from_fn.result i 0 ≡ byte c.args.s.now (c.args.at + i) = λ i l. search rules in
+    c.from_le_bytes.ensures ∙ eight_word _ _ _ (λ i. (c.type_inv.s i).fits) read

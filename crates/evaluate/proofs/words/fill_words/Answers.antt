@@ -1,18 +1,14 @@
 -- All nodes and pieces, in a span whose words are the final words. Assumes nothing.
+use mathlib.Core.Path.{◌∙◌}
 use native.Mathlib.Omega.{arith}
-use mathlib.Core.Path.{ap, ◌∙◌}
-use lib.ListN.{length}
-use Prim.Native.Nat.{◌/◌}
-use Rattle.model.specs.Bytes.{Bytes}
-use Rattle.primitives.proofs.Bodies.{fewer}
-use Rattle.evaluate.proofs.Spans.{whole_ready, whole_filled}
+use Rattle.evaluate.proofs.Spans.{nodes_are, pieces_are, whole_fits, whole_filled}
 use Rattle.evaluate.proofs.words.fill_words.Goals as goal
 
-pub section_body-nodes-requires : goal.section_body-nodes-requires
-section_body-nodes-requires c = fewer c.requires.inputs.accepted.delimited (omega arith)
-
 pub fill_span-requires : goal.fill_span-requires
-fill_span-requires c = whole_ready c.requires (ap (λ (nodes : Bytes). length nodes / 4) c.section_body-nodes.ensures) c.piece_count-pieces.ensures.0
+fill_span-requires c = let inputs = c.args.inputs.now in whole_fits inputs c.requires (nodes_are inputs) (pieces_are inputs)
 
 pub returns : goal.returns
-returns c = let listed = ap (λ (nodes : Bytes). length nodes / 4) c.section_body-nodes.ensures in c.fill_span.ensures ∙ whole_filled _ _ _ (omega (arith, listed, c.requires.inputs.accepted.limits.few_nodes)) listed c.piece_count-pieces.ensures.0
+returns c =
+    let inputs = c.args.inputs.now in
+    let listed = nodes_are inputs in
+    c.fill_span.ensures ∙ whole_filled _ _ _ (omega (arith, listed, inputs.reading.sections.limits.few_nodes)) listed (pieces_are inputs)

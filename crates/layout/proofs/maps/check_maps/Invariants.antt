@@ -1,6 +1,4 @@
 -- Before each map, what is left to check decides the outcome (Scanning). Assumes nothing.
-use Prim.Native.Nat.{◌-◌, ◌/◌}
-use lib.ListN.{length}
 use Rattle.model.specs.Layout.{Plan, map_count}
 use Rattle.model.specs.Declarations.{map_check}
 use Rattle.primitives.proofs.Scanning.{Scanning}
@@ -9,6 +7,3 @@ use Rattle.layout.proofs.maps.check_maps.Given as goal
 
 abbrev pub invariant-loop-map : goal.invariant-loop-map
 invariant-loop-map l = (P : Plan) → MapDeclarations P l.regions l.maps → Scanning (map_check P) (map_count P) l.map
-
-abbrev pub decreases-loop-map : goal.decreases-loop-map
-decreases-loop-map l = length l.maps / 3 - l.map

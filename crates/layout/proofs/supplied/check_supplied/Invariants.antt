@@ -1,6 +1,4 @@
 -- Before each partition, what is left to check decides the outcome (Scanning). Assumes nothing.
-use Prim.Native.Nat.{◌-◌, ◌/◌}
-use lib.ListN.{length}
 use Rattle.model.specs.Layout.{Plan, supplied_count}
 use Rattle.model.specs.Declarations.{supplied_check}
 use Rattle.primitives.proofs.Scanning.{Scanning}
@@ -9,6 +7,3 @@ use Rattle.layout.proofs.supplied.check_supplied.Given as goal
 
 abbrev pub invariant-loop-partition : goal.invariant-loop-partition
 invariant-loop-partition l = (P : Plan) → SuppliedDeclarations P l.regions l.supplied → Scanning (supplied_check P) (supplied_count P) l.partition
-
-abbrev pub decreases-loop-partition : goal.decreases-loop-partition
-decreases-loop-partition l = length l.supplied / 2 - l.partition

@@ -1,54 +1,55 @@
 -- What was seen are the classes of the loop's accesses so far; one that is not admitted decides. Assumes nothing.
-use Prim.Native.Nat.{◌<◌}
-use mathlib.Core.Path.{◌≡◌, refl, sym, ap, ◌∙◌}
+use Prim.Native.Nat.{ℕ, ◌<◌}
+use mathlib.Core.Path.{◌≡◌, sym, ◌∙◌}
 use native.Mathlib.Omega.{arith}
-use lib.ListN.{length}
-use Rattle.model.specs.Layout.{Plan, statement_count}
-use Rattle.model.specs.Statements.{loop}
-use Rattle.loops.specs.Parallel.{access_at, entered, admitted, LoopsKnown, LoopSpan}
-use Rattle.loops.proofs.Classes.{entered-length}
+use Rattle.model.specs.Layout.{Plan}
+use Rattle.loops.specs.Parallel.{access_at, entered, admitted, LoopsKnown}
 use Rattle.loops.proofs.SeenClasses.{seen_start, seen_next, not_parallelizable, seen_end}
-use borrow.Author.Rules.{rules}
 use Rattle.loops.proofs.parallel.is_parallelizable.Goals as goal
-use Rattle.loops.proofs.parallel.is_parallelizable.Goals.{After-enter_access, In-loop-s}
+use Rattle.loops.proofs.parallel.is_parallelizable.Goals.{After-enter_access}
 
--- statement s of the loop
-inside : (c : In-loop-s) (P : Plan) → LoopSpan P c.args.range.first c.args.range.end → c.loop-s.s < statement_count P
-inside c P span = omega (arith, span.bound, c.loop-s-test.true)
+-- statement s of the loop: its access is entered among those that were seen, and admitted or not
+module _ (c : After-enter_access) (P : Plan) (known : LoopsKnown P c.args.statements.now c.args.tables.now) where
+  abbrev s : ℕ
+  s = c.loop-s.s-iterator.start
 
-in_loop : (c : In-loop-s) (P : Plan) → LoopSpan P c.args.range.first c.args.range.end → loop P c.loop-s.s ≡ c.args.range.first
-in_loop c P span = span.own c.loop-s.s c.loop-s.invariant.0 c.loop-s-test.true
+  access_is : c.loop_access.result ≡ access_at P s
+  access_is = rw (← c.in-Some.ensures.steps.1.1) (c.loop_access.ensures P known)
 
--- its access, what was seen with it, and whether it is admitted
-access_is : (c : After-enter_access) (P : Plan) → LoopsKnown P c.args.statements.now c.args.operands.now c.args.variable_regions.now c.args.centered.now →
-    c.loop_access-a.result ≡ access_at P c.loop-s.s
-access_is c P known = c.loop_access-a.ensures P known
+  entered_is : c.enter_access.new.seen ≡ entered (access_at P s) c.loop-s.seen
+  entered_is = rw access_is at c.enter_access.ensures.0
 
-entered_is : (c : After-enter_access) (P : Plan) → LoopsKnown P c.args.statements.now c.args.operands.now c.args.variable_regions.now c.args.centered.now →
-    c.enter_access.new.seen ≡ entered (access_at P c.loop-s.s) c.loop-s.seen
-entered_is c P known = rw (access_is c P known) at c.enter_access.ensures.0
-
-admitted_is : (c : After-enter_access) (P : Plan) → LoopsKnown P c.args.statements.now c.args.operands.now c.args.variable_regions.now c.args.centered.now →
-    c.enter_access.result ≡ admitted (access_at P c.loop-s.s) (entered (access_at P c.loop-s.s) c.loop-s.seen)
-admitted_is c P known = rw (entered_is c P known, access_is c P known) at c.enter_access.ensures.1
+  admitted_is : c.enter_access.result ≡ admitted (access_at P s) (entered (access_at P s) c.loop-s.seen)
+  admitted_is = cc (c.enter_access.ensures.1, entered_is, access_is)
 
 pub loop-s-init : goal.loop-s-init
-loop-s-init c = (search rules, refl, λ P known span. seen_start P _)
+loop-s-init c =
+    let items = c.loop_statements-s-items.ensures in
+    rw (c.into_iter-s-iterator.ensures.into_iter_gives, items.0) (omega arith, items.1, λ P known o. (items.2 P known.section o, seen_start P _))
 
 pub returns-then-not-enter_access : goal.returns-then-not-enter_access
 returns-then-not-enter_access c =
-    λ P known span.
-    sym (not_parallelizable P _ known.limits (c.loop-s.invariant.2 P known span) (in_loop (goal.at.returns-then-not-enter_access c).In-loop-s P span) (inside (goal.at.returns-then-not-enter_access c).In-loop-s P span)
-    (sym (admitted_is (goal.at.returns-then-not-enter_access c).After-enter_access P known) ∙ c.if-not-enter_access.true))
+    λ P known o.
+    let point = (goal.at.returns-then-not-enter_access c).After-enter_access in
+    let (span, seen) = c.loop-s.invariant.2 P known o in
+    let lt : c.loop-s.s-iterator.start < c.loop-s.s-iterator.end = omega (arith, c.in-Some.ensures.steps.1.0) in
+    sym (not_parallelizable P _ known.limits seen (span.own _ c.loop-s.invariant.0 lt) (omega (arith, span.bound)) (sym (admitted_is point P known) ∙ c.if-not-enter_access.true))
 
 pub loop-s-preserved : goal.loop-s-preserved
-loop-s-preserved c = (
-  search rules,
-  ap length c.enter_access.ensures.0 ∙ entered-length _ _ ∙ c.loop-s.invariant.1,
-  λ P known span.
-      rw (entered_is (goal.at.loop-s-preserved c).After-enter_access P known) (seen_next P _ (c.loop-s.invariant.2 P known span) (in_loop (goal.at.loop-s-preserved c).In-loop-s P span)
-      (sym (admitted_is (goal.at.loop-s-preserved c).After-enter_access P known) ∙ c.if-not-enter_access.false)),
-)
+loop-s-preserved c =
+    let steps = c.in-Some.ensures.steps in
+    let lt : c.loop-s.s-iterator.start < c.loop-s.s-iterator.end = omega (arith, c.in-Some.ensures.steps.1.0) in
+    let point = (goal.at.loop-s-preserved c).After-enter_access in
+    rw (steps.0, steps.1.2) (
+      omega arith,
+      c.loop-s.invariant.1,
+      λ P known o.
+          let (span, seen) = c.loop-s.invariant.2 P known o in
+          (span, rw (entered_is point P known) (seen_next P _ seen (span.own _ c.loop-s.invariant.0 lt) (sym (admitted_is point P known) ∙ c.if-not-enter_access.false))),
+    )
 
 pub returns : goal.returns
-returns c = λ P known span. sym (seen_end P _ known.limits span c.loop-s-test.false (c.loop-s.invariant.2 P known span))
+returns c =
+    λ P known o.
+    let (span, seen) = c.loop-s.invariant.2 P known o in
+    sym (seen_end P _ known.limits span (omega (arith, c.in-None.ensures.steps.1.0)) seen)

@@ -1,55 +1,37 @@
--- The pass keeps the bounds and the needs of the statements before s in their tables. Assumes nothing.
-use Prim.Native.Nat.{◌/◌, ◌<◌}
-use mathlib.Core.Path.{◌≡◌, sym, ap}
-use native.Mathlib.Omega.{arith}
-use lib.ListN.{length}
-use borrow.Author.Rules.{rules as auto}
-use Rattle.model.specs.Layout.{statement_count}
-use Rattle.plan.proofs.NeedTables.{turn_starts, needs_start, needs_next}
+-- The pass keeps the bounds and the needs of the statements before s in their tables (NeedTables). Assumes nothing.
+use Rattle.std.proofs.Common.{◌≡◌, ◌<◌, ◌∙◌, get_or, take, arith, rules}
+use Rattle.model.specs.Layout.{statement_count, node_count}
+use Rattle.model.specs.Statements.{operand_definition}
+use Rattle.model.specs.Needs.{symbol_node, operand_bound}
+use Rattle.plan.specs.Plans.{plan_at}
+use Rattle.plan.proofs.NeedTables.{needs_start, operand_bound_is, needs_next}
 use Rattle.plan.proofs.needs.list_needs.Goals as goal
 
 pub loop-s-init : goal.loop-s-init
-loop-s-init c = let fit = c.requires in (turn_starts fit, λ P known. needs_start fit P)
-
-pub variable_bound-defined-requires : goal.variable_bound-defined-requires
-variable_bound-defined-requires c =
-    let few = c.requires.few_nodes in
-    let small = c.earlier_byte-followed.ensures.1 (omega arith) in
-    search auto
-
-pub overflow_add-s : goal.overflow_add-s
-overflow_add-s c =
-    let few = c.requires.few_statements in
-    search auto
+loop-s-init c = needs_start _ _ (search rules)
 
 pub loop-s-preserved : goal.loop-s-preserved
 loop-s-preserved c =
+    let P = plan_at c.args.tables in
     let l = c.loop-s in
-    let fit = c.requires in
-    let few : l.s < 64 = omega (arith, fit.few_statements, c.loop-s-test.true) in (
-      record {
-        inside = omega (arith, c.loop-s-test.true);
-        symbol_most = c.next_symbol-symbol.ensures.0;
-        bounds_room = let room = l.invariant.0.bounds_room in search auto;
-        needs_room = let room = l.invariant.0.needs_room in search auto;
-        symbols_room = let room = l.invariant.0.symbols_room in search auto;
-      },
-      λ P known. let past = l.invariant.1 P known in
-          let statements_are = known.bounds.statements_are in
-          needs_next known _ few c.loop-s-test.true past
-          c.byte_at-operand.ensures.0 c.earlier_byte-followed.ensures.0
-          (c.variable_bound-defined.ensures.0 P known.bounds past.symbol_is) c.byte_at-node.ensures.0 c.byte_at-node.ensures.1
-          c.byte_at-bound.ensures.0 (c.kind_at.ensures P statements_are)
-          c.first_need.ensures (c.needs_disjoint-reduces.ensures P known.pointers)
-          c.second_need.ensures
-          (c.next_symbol-symbol.ensures.1 P statements_are past.symbol_is),
-    )
+    let past = l.invariant in
+    let few : l.s < 64 = omega (arith, c.statement_count-s-end.ensures) in
+    let count = c.node_count-nodes.ensures.0 in
+    let operand = c.operand-operand.ensures.0 in
+    let node : c.assigned-node.result ≡ symbol_node P l.s = c.assigned-node.ensures.0 ∙ rw past.symbol_is in
+    let follows : c.from-followed.result ≡ get_or (take l.s l.bounds) (operand_definition P l.s) (node_count P) =
+    rw (c.from-followed.ensures, c.entry_or.ensures, operand, count) in
+    let defines = c.variable_bound.ensures.0 in
+    let bound : c.byte_at-bound.result ≡ operand_bound P l.s =
+    c.byte_at-bound.ensures.0 ∙ rw operand (operand_bound_is past few follows defines) in
+    let after = c.next_symbol-symbol.ensures in
+    needs_next past few follows defines
+    (c.first_need.ensures ∙ rw (c.kind.ensures, node, bound, count))
+    (c.second_need.ensures ∙ rw (c.needs_disjoint.ensures, node))
+    (omega (arith, node, c.assigned-node.ensures.1))
+    after.0 after.1
 
 pub returns : goal.returns
 returns c =
-    let l = c.loop-s in (
-      l.invariant.0.symbols_room,
-      λ P known. let count = ap (λ body. length body / 4) (sym known.bounds.statements_are) in
-          let all : statement_count P ≡ l.s = omega (arith, count, l.invariant.0.inside, c.loop-s-test.false) in
-          rw all (l.invariant.1 P known).needs_are,
-    )
+    let all : statement_count (plan_at c.args.tables) ≡ c.loop-s.s = omega (arith, c.statement_count-s-end.ensures) in
+    rw all c.loop-s.invariant.needs_are

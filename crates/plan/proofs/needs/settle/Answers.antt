@@ -1,55 +1,43 @@
--- Before each need, what is left to settle decides; before each step, what is left to search finds the need's step. Assumes nothing.
-use Prim.Native.Nat.{ℕ}
-use native.Mathlib.Omega.{arith}
-use lib.ListN.{get_or, length-replicate}
-use borrow.Author.Tests.{ne_eqb}
-use Rattle.model.specs.Tests.{◌=?◌}
+-- Before each need, what is left to settle decides (Settling); the search for its step ended at the first that concludes it, or at none
+-- (Searching). Assumes nothing.
+use Rattle.std.proofs.Common.{◌≡◌, ◌<◌, arith}
 use Rattle.model.proofs.Tests.{same! }
-use Rattle.primitives.proofs.Searching.{searching_start, searching_next, searching_found, searching_end}
-use Rattle.plan.proofs.Settling.{Searched, settling_starts, settling_unasked, settling_found, settling_unmet, settling_ends}
+use Rattle.primitives.proofs.Searching.{searching_found, searching_end}
+use Rattle.model.specs.Layout.{step_count}
+use Rattle.plan.specs.Plans.{plan_at}
+use Rattle.plan.proofs.Settling.{settling_starts, settling_unasked, settling_unlisted, settling_met, settling_unmet, settling_ends}
 use Rattle.plan.proofs.needs.settle.Goals as goal
-use Rattle.plan.proofs.needs.settle.Goals.{Joined-t-steps, then-t-steps, else-t-steps+then-conclusions-t}
-
--- what the search ended with
-searched : (c : Joined-t-steps) →
-    (let need = get_or c.args.needs.now c.needs.i 0 in
-    Searched c.args.conclusions.now c.args.steps need c.if-t-steps.found)
-searched c =
-    let past = c.steps.invariant in
-    elim c.if-t-steps.branch [
-      | then-t-steps w ↦ rw (w.found-is, ← searching_end past w.if-t-steps.true) w.if-t-steps.true
-      | else-t-steps+then-conclusions-t w ↦ rw w.found-is (searching_found past w.if-t-steps.false (same! w.if-conclusions-t.true), w.if-t-steps.false)
-    ]
+use Rattle.plan.proofs.needs.settle.Goals.{then-loop-t-test+then-conclusions-t, else-loop-t-test}
 
 pub needs-init : goal.needs-init
-needs-init c = settling_starts _ _ _ _ _ (length-replicate {A = ℕ} 128 0)
+needs-init c = settling_starts _ _ _
 
-pub needs-preserved-then-need-eq-NO_NEED : goal.needs-preserved-then-need-eq-NO_NEED
-needs-preserved-then-need-eq-NO_NEED c =
-    settling_unasked _ _ _ _ _ c.needs.invariant c.needs-test.true c.if-need-eq-NO_NEED.true
+pub needs-preserved-in-Nothing : goal.needs-preserved-in-Nothing
+needs-preserved-in-Nothing c = settling_unasked _ _ _ c.needs.invariant c.in-Nothing.is (omega (arith, c.statement_count-i-end.ensures))
 
-pub steps-init : goal.steps-init
-steps-init c = searching_start _ _
+pub returns-in-Unlisted : goal.returns-in-Unlisted
+returns-in-Unlisted c =
+    rw c.unmet_need.ensures (settling_unlisted _ _ _ c.needs.invariant c.in-Unlisted.is (omega (arith, c.statement_count-i-end.ensures)))
 
-pub steps-preserved : goal.steps-preserved
-unfolding ◌=?◌
-steps-preserved c =
-    searching_next c.steps.invariant c.if-t-steps.false (ne_eqb _ _ c.if-conclusions-t.false)
-
-pub overflow_cast-found_steps : goal.overflow_cast-found_steps
-overflow_cast-found_steps c =
-    let at = rw c.in-At.is at (searched (goal.at.overflow_cast-found_steps c).Joined-t-steps) in
-    omega (arith, at.1, c.requires.1)
-
-pub returns-in-Nowhere : goal.returns-in-Nowhere
-returns-in-Nowhere c =
-    settling_unmet _ _ _ _ _ c.needs.invariant c.needs-test.true c.if-need-eq-NO_NEED.false
-    (rw c.in-Nowhere.is at (searched (goal.at.returns-in-Nowhere c).Joined-t-steps)) c.unmet_need.ensures c.byte_at.ensures.0
+pub returns-in-None : goal.returns-in-None
+returns-in-None c =
+    elim c.loop-t-test.branch [
+      | then-loop-t-test+then-conclusions-t w ↦ (let e = w.found-is in let f = c.in-None.is in cc)
+      | else-loop-t-test w ↦ rw c.unmet_need-in-None.ensures
+          (settling_unmet _ _ _ c.needs.invariant c.in-Conclusion.is (omega (arith, c.statement_count-i-end.ensures))
+          (let end = searching_end c.loop-t.invariant (omega (arith, c.step_count-t-end.ensures)) in omega (arith, c.step_count-t-end.ensures)))
+    ]
 
 pub needs-preserved : goal.needs-preserved
 needs-preserved c =
-    let at = rw c.in-At.is at (searched (goal.at.needs-preserved c).Joined-t-steps) in
-    settling_found _ _ _ _ _ c.needs.invariant c.needs-test.true c.requires.0 at.0 at.1
+    elim c.loop-t-test.branch [
+      | then-loop-t-test+then-conclusions-t w ↦ (
+          let inside : c.loop-t.t < step_count (plan_at c.args.tables) = omega (arith, c.step_count-t-end.ensures) in
+          let step : c.loop-t.t ≡ c.in-Some.step = (let e = w.found-is in let f = c.in-Some.is in cc) in
+          rw (← step) (settling_met _ _ _ c.needs.invariant c.in-Conclusion.is (omega (arith, c.statement_count-i-end.ensures))
+          (searching_found c.loop-t.invariant inside (same! w.if-conclusions-t.true)) inside (omega (arith, c.statement_count-i-end.ensures))))
+      | else-loop-t-test w ↦ (let e = w.found-is in let f = c.in-Some.is in cc)
+    ]
 
 pub returns : goal.returns
-returns c = settling_ends _ _ _ _ _ c.needs.invariant c.needs-test.false
+returns c = settling_ends _ _ _ c.needs.invariant (omega (arith, c.statement_count-i-end.ensures))

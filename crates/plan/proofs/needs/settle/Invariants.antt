@@ -1,19 +1,14 @@
 -- Before each need, what is left to settle decides; before each step, what is left to search finds the need's step. Assumes nothing.
-use Prim.Native.Nat.{◌-◌}
-use lib.ListN.{get_or}
+use Rattle.std.proofs.Common.{get_or}
 use Rattle.model.specs.Tests.{◌=?◌}
+use Rattle.model.specs.Layout.{step_count}
 use Rattle.primitives.proofs.Searching.{Searching}
+use Rattle.plan.specs.Plans.{plan_at}
 use Rattle.plan.proofs.Settling.{SettledBefore}
 use Rattle.plan.proofs.needs.settle.Given as goal
 
-abbrev pub invariant-steps : goal.invariant-steps
-invariant-steps l = Searching (λ k. get_or l.conclusions k 0 =? l.need) l.steps l.t
-
-abbrev pub decreases-steps : goal.decreases-steps
-decreases-steps l = l.steps - l.t
+abbrev pub invariant-loop-t : goal.invariant-loop-t
+invariant-loop-t l = Searching (λ k. get_or l.conclusions k 0 =? l.key) (step_count (plan_at l.tables)) l.t
 
 abbrev pub invariant-needs : goal.invariant-needs
-invariant-needs l = SettledBefore l.needs l.symbols l.count l.conclusions l.steps l.found_steps l.i
-
-abbrev pub decreases-needs : goal.decreases-needs
-decreases-needs l = l.count - l.i
+invariant-needs l = SettledBefore (plan_at l.tables) l.needs l.conclusions l.concluding l.i

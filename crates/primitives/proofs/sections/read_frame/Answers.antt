@@ -4,13 +4,13 @@ use Rattle.primitives.proofs.Bodies.{located_start, located_next, located_end, b
 use Rattle.primitives.proofs.sections.read_frame.Goals as goal
 
 pub loop-n-init : goal.loop-n-init
-loop-n-init c = (omega arith, located_start _)
+loop-n-init c = located_start _
 
 pub overflow_add-at : goal.overflow_add-at
 overflow_add-at c =
     let l = c.loop-n in
     let s = c.args.s.now in
-    omega (arith, l.invariant.1.place, boundary_most s (λ i. omega (arith, c.type_inv.s i)) l.n)
+    omega (arith, l.invariant.place, boundary_most s (λ i. omega (arith, c.type_inv.s i)) l.n)
 
 pub overflow_add-at-in-loop-n : goal.overflow_add-at-in-loop-n
 overflow_add-at-in-loop-n c =
@@ -18,13 +18,13 @@ overflow_add-at-in-loop-n c =
     let s = c.args.s.now in
     omega (
       arith,
-      l.invariant.1.place,
+      l.invariant.place,
       c.u16_at.ensures.1,
       boundary_most s (λ i. omega (arith, c.type_inv.s i)) l.n,
     )
 
 pub loop-n-preserved : goal.loop-n-preserved
-loop-n-preserved c = (omega arith, located_next _ c.loop-n.invariant.1 c.u16_at.ensures.0)
+loop-n-preserved c = located_next _ c.loop-n.invariant c.u16_at.ensures.0
 
 pub returns : goal.returns
-returns c = let l = c.loop-n in located_end _ l.invariant.0 c.loop-n-test.false l.invariant.1
+returns c = let l = c.loop-n in located_end _ (omega arith) (omega arith) l.invariant

@@ -1,10 +1,6 @@
 -- After each section the places so far are stored (Bodies). Assumes nothing.
-use Prim.Native.Nat.{◌-◌, ◌≤◌}
 use Rattle.primitives.proofs.Bodies.{Located}
 use Rattle.primitives.proofs.sections.read_frame.Given as goal
 
 abbrev pub invariant-loop-n : goal.invariant-loop-n
-invariant-loop-n l = (l.n ≤ l.sections) × Located l.s l.boundaries l.at l.n
-
-abbrev pub decreases-loop-n : goal.decreases-loop-n
-decreases-loop-n l = l.sections - l.n
+invariant-loop-n l = Located l.s l.boundaries l.at l.n

@@ -1,59 +1,40 @@
--- One after the other (Questions). Assumes nothing.
-use Prim.Native.Nat.{◌/◌, ◌<◌}
+-- One after the other. Assumes nothing.
 use mathlib.Core.Path.{◌≡◌, sym, ap, ◌∙◌}
 use native.Mathlib.Omega.{arith}
-use lib.ListN.{length}
-use Rattle.model.specs.Bytes.{Bytes}
-use Rattle.model.specs.Layout.{plan_of, node_count}
-use Rattle.model.specs.Nodes.{node_region}
-use Rattle.model.specs.DataSets.{data_of, pieces, size}
-use Rattle.primitives.proofs.Bodies.{fewer}
-use Rattle.provenance.proofs.Questions.{no_node, no_piece, no_element, all_exist}
+use Rattle.std.specs.Prelude.{Ok}
+use Rattle.model.specs.Tests.{◌<?◌}
+use Rattle.model.specs.Outcomes.{require}
+use Rattle.model.specs.Layout.{node_count}
+use Rattle.model.specs.declared.Acceptance.{Acceptance}
+use Rattle.model.specs.declared.Refusal.TheVariants.{NotFound}
+use Rattle.model.specs.DataSets.{DataSet, pieces}
+use Rattle.model.proofs.Tests.{less}
+use Rattle.model.proofs.Outcomes.{require_pass}
+use Rattle.primitives.proofs.Stages.{then_ok, then_err, handed_on}
+use Rattle.evaluate.specs.Inputs.{plan_given}
+use Rattle.evaluate.specs.declared.inputs.Inputs.{Inputs}
 use Rattle.provenance.proofs.question.check_existence.Goals as goal
-use Rattle.provenance.proofs.question.check_existence.Goals.{After-piece_count, After-region_size}
 
--- the number of nodes, as it is counted
-nodes_counted : {nodes : Bytes} (p : Bytes) → nodes ≡ (plan_of p).nodes → length nodes / 4 ≡ node_count (plan_of p)
-nodes_counted p is = ap (λ (nodes : Bytes). length nodes / 4) is
+-- the acceptance counts the nodes
+counted : (inputs : Inputs) → inputs.reading.acceptance.nodes ≡ node_count (plan_given inputs)
+counted inputs = ap (λ (a : Acceptance). a.nodes) inputs.reading.counted
 
-pub section_body-nodes-requires : goal.section_body-nodes-requires
-section_body-nodes-requires c = fewer c.requires.accepted.delimited (omega arith)
-
-pub returns-then-question-nodes : goal.returns-then-question-nodes
-returns-then-question-nodes c =
-    no_node (plan_of c.args.plan.now) (data_of c.args.«data».now) c.args.question (omega (arith, nodes_counted _ c.section_body-nodes.ensures, c.if-question-nodes.true))
-
--- the node exists
-node_listed : (c : After-piece_count) → c.args.question.node < node_count (plan_of c.args.plan.now)
-node_listed c = omega (arith, nodes_counted _ c.section_body-nodes.ensures, c.if-question-nodes.false)
-
-pub returns-then-question-piece_count : goal.returns-then-question-piece_count
-returns-then-question-piece_count c =
-    no_piece (plan_of c.args.plan.now) (data_of c.args.«data».now) c.args.question (node_listed (goal.at.returns-then-question-piece_count c).After-piece_count)
-    (omega (arith, c.piece_count.ensures.0, c.if-question-piece_count.true))
-
-pub section_body-sizes-requires : goal.section_body-sizes-requires
-section_body-sizes-requires c = fewer c.requires.placed.delimited (omega arith)
-
--- so does the piece
-piece_listed : (c : After-region_size) → c.args.question.piece < pieces (data_of c.args.«data».now)
-piece_listed c = omega (arith, c.piece_count.ensures.0, c.if-question-piece_count.false)
-
--- the size of the node's region
-size_is : (c : After-region_size) → c.args.question.node < node_count (plan_of c.args.plan.now) →
-    c.region_size.result ≡ size (data_of c.args.«data».now) (node_region (plan_of c.args.plan.now) c.args.question.node)
-size_is c listed =
-    c.region_size.ensures.0 _ (sym c.section_body-sizes.ensures)
-    ∙ ap (size _) (c.byte_at.ensures.0 ∙ c.requires.accepted.node_regions_lem _ listed)
-
-pub returns-then-question-region_size : goal.returns-then-question-region_size
-returns-then-question-region_size c =
-    let x = (goal.at.returns-then-question-region_size c).After-region_size in
-    let listed = node_listed (goal.at.returns-then-question-region_size c).After-piece_count in
-    no_element (plan_of c.args.plan.now) (data_of c.args.«data».now) c.args.question listed (piece_listed x) (omega (arith, size_is x listed, c.if-question-region_size.true))
+pub returns-in_err-require : goal.returns-in_err-require
+unfolding ◌<?◌
+returns-in_err-require c =
+    handed_on _ c.from_residual.ensures.1
+    ∙ sym (then_err _ (rw (counted c.args.inputs.now) at (sym c.require.ensures ∙ c.in_err-require.was)))
 
 pub returns : goal.returns
+unfolding ◌<?◌
 returns c =
-    let x = (goal.at.returns c).After-region_size in
-    let listed = node_listed (goal.at.returns c).After-piece_count in
-    all_exist (plan_of c.args.plan.now) (data_of c.args.«data».now) c.args.question listed (piece_listed x) (omega (arith, size_is x listed, c.if-question-region_size.false))
+    let inputs = c.args.inputs.now in
+    let first : require (c.args.question.node <? node_count (plan_given inputs)) (NotFound 1) ≡ Ok tt =
+    rw (counted inputs) at (sym c.require.ensures ∙ c.in_ok-require.was) in
+    let listed = less (require_pass _ _ first) in
+    let size = c.node_size-size.ensures.size (plan_given inputs) inputs.«data».now (record {
+      sizes_are = c.sources_of.ensures.sizes_are ∙ ap (λ (D : DataSet). D.sizes) inputs.placed.parts;
+      node_regions_are = λ j lt. rw c.sources_of.ensures.node_regions_are (inputs.reading.regions_known j (omega arith));
+    }) in
+    let second = rw (ap pieces inputs.placed.parts) at (sym c.require-2.ensures ∙ c.in_ok-require-2.was) in
+    c.require-3.ensures ∙ rw size (sym (then_ok _ first ∙ then_ok _ second))

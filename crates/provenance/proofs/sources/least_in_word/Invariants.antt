@@ -3,7 +3,7 @@ use Rattle.provenance.proofs.LeastSources.{Left}
 use Rattle.provenance.proofs.sources.least_in_word.Given as goal
 
 abbrev pub invariant-loop-rest : goal.invariant-loop-rest
-invariant-loop-rest l = Left l.members l.entries l.start l.element l.rest
+invariant-loop-rest l = Left l.members l.entries l.element l.rest
 
 abbrev pub decreases-loop-rest : goal.decreases-loop-rest
 decreases-loop-rest l = l.rest

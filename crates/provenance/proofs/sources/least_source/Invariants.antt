@@ -1,10 +1,7 @@
 -- Word by word, until one has such an element. Assumes nothing.
-use Prim.Native.Nat.{◌-◌}
+use Prim.Native.Nat.{◌*◌}
 use Rattle.provenance.proofs.LeastSources.{NoneBefore}
 use Rattle.provenance.proofs.sources.least_source.Given as goal
 
 abbrev pub invariant-loop-w : goal.invariant-loop-w
-invariant-loop-w l = NoneBefore l.words l.at l.entries l.start l.element l.w
-
-abbrev pub decreases-loop-w : goal.decreases-loop-w
-decreases-loop-w l = 9 - l.w
+invariant-loop-w l = NoneBefore l.set l.entries l.element (64 * l.w)

@@ -16,29 +16,27 @@ use Rattle.subregions.proofs.fill.fill_nodes.Goals.{Joined-has_bit, then-has_bit
 -- one node more is passed, filled or not
 next : (c : Joined-has_bit) →
     (let a = c.args in
-    (P : Plan) (d : Bytes) → FillSources P d a.nodes.now a.node_regions.now a.sizes.now a.entries.now a.members.now a.entry_starts.now a.member_starts.now a.span
-    (length a.words.now) → c.if-has_bit.words ≡ filled_up_to P (data_of d) a.span a.words.now (c.loop-j.j + 1))
+    (P : Plan) (d : Bytes) → FillSources P d a.sources.now a.span (length a.words.now) → c.if-has_bit.words ≡ filled_up_to P (data_of d) a.span a.words.now (c.loop-j.j + 1))
 next c P d S =
     let l = c.loop-j in
     let t = c.loop-j-test.true in
     elim c.if-has_bit.branch [
       | then-has_bit w ↦
-          w.words-is ∙ w.fill_node.ensures P d (node_sources S l.invariant.1 t (c.node_sizes-sizes_of_nodes.ensures P d))
-          ∙ ap (λ (list : List ℕ). node_filled P (data_of d) c.args.span list l.j) (l.invariant.2 P d S)
+          w.words-is ∙ w.fill_node.ensures P d (node_sources S l.invariant.0 t)
+          ∙ ap (λ (list : List ℕ). node_filled P (data_of d) c.args.span list l.j) (l.invariant.1 P d S)
           ∙ node_next P (data_of d) S.facts (fit P d S.fits) _ _ S.span_fits l.j t (sym c.has_bit.ensures ∙ w.if-has_bit.true)
       | else-has_bit w ↦
-          w.words-is ∙ l.invariant.2 P d S
+          w.words-is ∙ l.invariant.1 P d S
           ∙ sym (node_skipped P (data_of d) S.facts (fit P d S.fits) _ _ S.span_fits l.j (sym c.has_bit.ensures ∙ w.if-has_bit.false))
     ]
 
 pub loop-j-init : goal.loop-j-init
 unfolding filled_up_to
-loop-j-init c = (omega arith, refl, λ P d S. refl)
+loop-j-init c = (refl, λ P d S. refl)
 
 pub loop-j-preserved : goal.loop-j-preserved
 loop-j-preserved c =
     let h = c.requires.sources in (
-      omega arith,
       ap length (next c _ _ h) ∙ passed_length _ _ h.facts (fit _ _ h.fits) _ _ h.span_fits _,
       next c,
     )
@@ -48,4 +46,4 @@ unfolding span_filled
 returns c =
     let l = c.loop-j in
     let end : l.j ≡ c.args.span.nodes = omega (arith, c.loop-j-test.false, l.invariant.0) in
-    λ P d S. l.invariant.2 P d S ∙ ap (filled_up_to P (data_of d) c.args.span c.args.words.now) end
+    λ P d S. l.invariant.1 P d S ∙ ap (filled_up_to P (data_of d) c.args.span c.args.words.now) end

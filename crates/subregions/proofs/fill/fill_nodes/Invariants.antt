@@ -1,5 +1,4 @@
 -- The loop has the members of each needed node passed in its words. Assumes nothing.
-use Prim.Native.Nat.{◌-◌, ◌≤◌}
 use mathlib.Core.Path.{◌≡◌}
 use lib.ListN.{length}
 use Rattle.model.specs.Bytes.{Bytes}
@@ -9,9 +8,5 @@ use Rattle.subregions.specs.Fill.{filled_up_to, FillSources}
 use Rattle.subregions.proofs.fill.fill_nodes.Given as goal
 
 abbrev pub invariant-loop-j : goal.invariant-loop-j
-invariant-loop-j l = (l.j ≤ l.span.nodes) × (length l.words ≡ length l.initial.words)
-    × ((P : Plan) (d : Bytes) → FillSources P d l.nodes l.node_regions l.sizes l.entries l.members l.entry_starts l.member_starts l.span (length l.initial.words)
-    → l.words ≡ filled_up_to P (data_of d) l.span l.initial.words l.j)
-
-abbrev pub decreases-loop-j : goal.decreases-loop-j
-decreases-loop-j l = l.span.nodes - l.j
+invariant-loop-j l = (length l.words ≡ length l.initial.words)
+    × ((P : Plan) (d : Bytes) → FillSources P d l.sources l.span (length l.initial.words) → l.words ≡ filled_up_to P (data_of d) l.span l.initial.words l.j)

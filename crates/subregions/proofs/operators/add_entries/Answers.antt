@@ -28,8 +28,8 @@ overflow_add-start c =
     omega (arith, c.requires.inside _ n.inside (c.loop-rest.invariant.1 _ n.member), c.well_formed)
 
 -- its entry is there
-pub target-e-requires : goal.target-e-requires
-target-e-requires c =
+pub target-requires : goal.target-requires
+target-requires c =
     let n = found c in
     c.requires.inside _ n.inside (c.loop-rest.invariant.1 _ n.member)
 
@@ -37,11 +37,12 @@ pub loop-rest-preserved : goal.loop-rest-preserved
 loop-rest-preserved c =
     let n = found (goal.at.loop-rest-preserved c).After-lowest in
     let l = c.loop-rest in
-    let a = c.args in (
+    let a = c.args in
+    let leads = c.from-e.ensures ∙ c.target.ensures in (
       omega (arith, and_le_l l.rest (l.rest - 1), l.invariant.0),
       λ b t. l.invariant.1 b (both (sym (n.cleared b) ∙ t)).0,
-      λ elements h. set_added _ _ _ _ (omega (arith, c.target-e.ensures)) (l.invariant.2 elements h)
-          (λ e m. ap (λ (v : ℕ). gathered a.entries.now a.start a.members elements l.rest e or e =? v) c.target-e.ensures
+      λ elements h. set_added _ _ _ _ (omega (arith, leads)) (l.invariant.2 elements h)
+          (λ e m. ap (λ (v : ℕ). gathered a.entries.now a.start a.members elements l.rest e or e =? v) leads
           ∙ ap (λ (t : Bool). gathered a.entries.now a.start a.members elements l.rest e or t) (entry_cut _ e m)
           ∙ gathered_next a.entries.now a.start a.members elements l.rest _ _ _ n.inside n.member (l.invariant.1 _ n.member) refl n.cleared e),
     )

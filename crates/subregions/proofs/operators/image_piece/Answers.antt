@@ -3,6 +3,8 @@ use Prim.Native.Nat.{ℕ, ◌+◌, ◌*◌}
 use mathlib.Core.Path.{◌≡◌, sym, ap, ◌∙◌}
 use Rattle.model.proofs.Tests.{both}
 use native.Mathlib.Omega.{arith}
+use lib.ListN.{take}
+use Rattle.std.proofs.Common.{rules}
 use Rattle.model.specs.Words.{holds}
 use Rattle.bitsets.specs.Elements.{masked, entries_of}
 use Rattle.subregions.proofs.Maps.{entries_none, entries_word}
@@ -10,7 +12,7 @@ use Rattle.subregions.proofs.Piece.{set_none, set_same, set_piece, masked-bit}
 use Rattle.subregions.proofs.operators.image_piece.Goals as goal
 
 pub loop-w-init : goal.loop-w-init
-loop-w-init c = (omega arith, set_none _ (λ e. entries_none _ _ _ e))
+loop-w-init c = (omega arith, set_none _ (λ e. entries_none _ _ e))
 
 pub add_entries-requires : goal.add_entries-requires
 unfolding masked
@@ -18,7 +20,7 @@ add_entries-requires c =
     let w = c.loop-w.w in
     record {
       inside = λ b h t.
-          let there = c.requires.inside (w * 64 + b) (omega arith) (both (sym (masked-bit c.args.words.now c.args.masks.now c.args.a w b h) ∙ t)).0 in
+          let there = c.requires.inside (w * 64 + b) (omega arith) (both (sym (masked-bit c.args.operand.now c.args.masks.now c.args.at w b h) ∙ t)).0 in
           omega (arith, there);
     }
 
@@ -26,7 +28,7 @@ pub loop-w-preserved : goal.loop-w-preserved
 loop-w-preserved c =
     let l = c.loop-w in (
       omega (arith, c.loop-w-test.true),
-      set_same _ _ _ (c.add_entries.ensures _ l.invariant.1) (λ e h. entries_word _ _ _ l.w _ (masked-bit _ _ _ l.w) e),
+      set_same _ _ _ (c.add_entries.ensures _ l.invariant.1) (λ e h. entries_word _ _ l.w _ (masked-bit _ _ _ l.w) e),
     )
 
 pub returns : goal.returns
@@ -34,5 +36,6 @@ returns c =
     let l = c.loop-w in
     let a = c.args in
     let all : l.w ≡ 8 = omega (arith, l.invariant.0, c.loop-w-test.false) in
-    set_piece _ _ (set_same _ _ _ l.invariant.1
-    (λ e h. ap (λ (n : ℕ). entries_of (64 * n) a.entries.now a.start (masked a.masks.now (holds a.words.now a.a)) e) all))
+    let first : c.unwrap.result.now ≡ take 8 l.set = search rules in
+    set_piece _ _ _ first (set_same _ _ _ l.invariant.1
+    (λ e h. ap (λ (n : ℕ). entries_of (64 * n) a.entries.now 0 (masked a.masks.now (holds a.operand.now a.at)) e) all))

@@ -1,12 +1,9 @@
 -- Word by word: the entries of a word's members are added to those of the words before. Assumes nothing.
-use Prim.Native.Nat.{◌-◌, ◌*◌, ◌≤◌}
+use Prim.Native.Nat.{◌*◌, ◌≤◌}
 use Rattle.model.specs.Words.{holds}
 use Rattle.bitsets.specs.Elements.{masked, entries_of}
 use Rattle.subregions.specs.Operators.{SetOf}
 use Rattle.subregions.proofs.operators.image_piece.Given as goal
 
 abbrev pub invariant-loop-w : goal.invariant-loop-w
-invariant-loop-w l = (l.w ≤ 8) × SetOf (entries_of (64 * l.w) l.entries l.start (masked l.masks (holds l.words l.a))) l.set
-
-abbrev pub decreases-loop-w : goal.decreases-loop-w
-decreases-loop-w l = 8 - l.w
+invariant-loop-w l = (l.w ≤ 8) × SetOf (entries_of (64 * l.w) l.entries 0 (masked l.masks (holds l.operand l.at))) l.set

@@ -7,11 +7,8 @@ use Rattle.bitsets.specs.Elements.{through}
 use Rattle.subregions.proofs.operators.member_at.Goals as goal
 
 pub bit_of-requires : goal.bit_of-requires
-bit_of-requires c =
-    omega (arith, c.requires.1.nine, c.wide.ensures, c.requires.1.small c.args.k c.requires.0)
+bit_of-requires c = omega (arith, c.told-set, c.from.ensures, c.requires.1 c.args.k c.requires.0)
 
 pub returns : goal.returns
 unfolding through
-returns c =
-    let set = c.args.set.now in
-    c.bit_of.ensures ∙ ap (λ (e : ℕ). digit (holds set 0 e)) c.wide.ensures
+returns c = c.bit_of.ensures ∙ ap (λ (e : ℕ). digit (holds c.args.set.now 0 e)) c.from.ensures

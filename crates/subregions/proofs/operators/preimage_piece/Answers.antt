@@ -10,7 +10,7 @@ loop-w-init c = made_none _
 pub preimage_word-requires : goal.preimage_word-requires
 preimage_word-requires c =
     let ready = c.requires in
-    (omega (arith, c.loop-w-test.true, ready.few_elements), ready.lookup)
+    (omega (arith, c.loop-w-test.true, ready.few_elements), ready.small)
 
 pub loop-w-preserved : goal.loop-w-preserved
 loop-w-preserved c = made_next _ _ _ _ c.loop-w.invariant (omega (arith, c.requires.few_elements)) c.preimage_word.ensures

@@ -1,24 +1,17 @@
 -- Word by word: eight bytes, each reversed, are the elements in order. Assumes nothing.
-use Prim.Native.Nat.{◌+◌}
-use lib.ListN.{length}
-use borrow.Author.Tests.{leb-true}
-use native.Mathlib.Omega.{arith}
-use Rattle.subregions.proofs.Piece.{made_none, made_next, made_all, supplied_word}
+use Rattle.std.proofs.Common.{rules, refl, ◌≡◌, ◌∙◌, ◌+◌, ◌*◌, get_or, bit_and}
+use Rattle.model.specs.Words.{from_bits}
+use Rattle.bitsets.specs.Elements.{bytes_bits, reversed_bits}
+use Rattle.subregions.proofs.Piece.{supplied_word}
 use Rattle.subregions.proofs.operators.supplied_piece.Goals as goal
 
-pub loop-w-init : goal.loop-w-init
-loop-w-init c = made_none _
-
-pub piece_bytes-requires : goal.piece_bytes-requires
-piece_bytes-requires c =
-    record { near = omega (arith, c.requires.near); there = λ t. omega (arith, leb-true (c.args.from + 64) (length c.args.members.now) t) }
-
-pub loop-w-preserved : goal.loop-w-preserved
-loop-w-preserved c =
-    let l = c.loop-w in
-    let a = c.args in
-    made_next _ _ _ _ l.invariant c.loop-w-test.true
-    (supplied_word a.masks.now a.members.now a.from l.w _ _ c.piece_bytes.ensures c.reverse_bytes.ensures)
-
 pub returns : goal.returns
-returns c = made_all _ _ _ c.loop-w.invariant c.loop-w-test.false
+returns c =
+    let a = c.args in
+    record {
+      eight = search rules;
+      word_is = λ w l.
+          let made : get_or c.from_fn.result w 0 ≡ bit_and (from_bits 64 (reversed_bits (from_bits 64 (bytes_bits a.members.now (a.from + 8 * w))))) (get_or a.masks.now w 0) =
+          search rules in
+          made ∙ supplied_word a.masks.now a.members.now a.from w _ _ refl refl;
+    }

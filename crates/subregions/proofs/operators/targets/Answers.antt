@@ -1,5 +1,5 @@
 -- Entry by entry; the places behind the last one keep 512. Assumes nothing.
-use Prim.Native.Nat.{ℕ, ◌+◌, ◌*◌, min}
+use Prim.Native.Nat.{ℕ, ◌*◌, min}
 use mathlib.Core.Path.{◌≡◌, ◌∙◌}
 use native.Mathlib.Omega.{arith}
 use lib.ListN.{length-set, length-replicate, get_or-replicate}
@@ -14,16 +14,13 @@ loop-k-init c = (omega arith, length-replicate {A = ℕ} 512 512, λ n l. absurd
 pub target-requires : goal.target-requires
 target-requires c = omega (arith, c.requires.1)
 
-pub overflow_cast-table : goal.overflow_cast-table
-overflow_cast-table c = omega (arith, c.target.ensures)
-
 pub loop-k-preserved : goal.loop-k-preserved
 loop-k-preserved c =
     let l = c.loop-k in
     let a = c.args in (
       omega arith,
       length-set l.table l.k _ ∙ l.invariant.1,
-      entry_next 0 (λ n x. x ≡ min (u16 a.entries.now (a.start + 2 * n)) 512) l.table l.k _ (omega (arith, c.requires.0)) l.invariant.2 c.target.ensures,
+      entry_next 0 (λ n x. x ≡ min (u16 a.entries.now (2 * n)) 512) l.table l.k _ (omega (arith, c.requires.0)) l.invariant.2 c.target.ensures,
       λ n h m. get_or-set_other l.table l.k n _ 0 (λ q. absurd (omega arith)) ∙ l.invariant.3 n (omega arith) m,
     )
 

@@ -1,0 +1,27 @@
+// The tables of section 4.
+ghost use Rattle.std.specs.Prelude.{◌≡◌, ◌<◌};
+ghost use Rattle.loops.specs.Tables.{with_entry};
+
+use crate::statements::StatementEntry;
+
+// What the statements tell the checks after them, by statement: the definition of the variable that it works on, the region
+// of the variable that it defines, and whether that one is centered. Three tables and not one of entries: each is read, and
+// stated (specs/Tables.Table), by itself, with its own value past the end.
+#[derive(Clone, Copy)]
+pub struct StatementTables {
+    pub operands: [u8; 64],
+    pub variable_regions: [u8; 64],
+    pub centered: [bool; 64],
+}
+
+impl StatementTables {
+    // Enters what they take of statement s.
+    pub fn enter(&mut self, s: usize, entry: StatementEntry)
+        requires { s < 64 }
+        ensures { self.new ≡ with_entry s entry self.old }
+    {
+        self.operands[s] = entry.operand;
+        self.variable_regions[s] = entry.region;
+        self.centered[s] = entry.centered;
+    }
+}

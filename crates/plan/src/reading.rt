@@ -1,0 +1,21 @@
+// What reading a plan gives where it accepts.
+ghost use Rattle.std.specs.Prelude.{◌≡◌, ℕ, ◌<◌, get_or};
+ghost use Rattle.model.specs.Layout.{node_count};
+ghost use Rattle.model.specs.Nodes.{node_region};
+ghost use Rattle.model.specs.Verdict.{accepted};
+ghost use Rattle.model.specs.AcceptedPlans.{Facts};
+ghost use Rattle.layout.specs.Sections.{plan_in};
+
+use layout::sections::PlanSections;
+use model::Acceptance;
+
+// What an acceptance carries, the plan's sections, and the region of each node.
+#[derive(Clone, Copy)]
+pub struct Reading<'a> {
+    pub acceptance: Acceptance,
+    pub sections: PlanSections<'a>,
+    pub node_regions: [u8; 48],
+    pub ghost counted: { acceptance ≡ accepted (plan_in sections) },
+    pub ghost facts: { Facts (plan_in sections) },
+    pub ghost regions_known: { (j : ℕ) → j < node_count (plan_in sections) → get_or node_regions j 0 ≡ node_region (plan_in sections) j },
+}
