@@ -168,7 +168,7 @@ pub fn bit_of(words: &[u64], at: usize, element: usize) -> u64
     u64::from(holds(words, at, element))
 }
 
-// The word of one bit; of none for a place that a word does not have.
+// The word of one bit; of none for a place that a word does not have: a word and no `Option`, since words are joined.
 #[tactic(auto, using(crate::proofs::Elements::bit_shifted, crate::proofs::Elements::no_bit))]
 pub fn one_bit(place: usize) -> u64
     ensures { OneBit place result }
@@ -176,7 +176,7 @@ pub fn one_bit(place: usize) -> u64
     if place < 64 { 1 << place } else { 0 }
 }
 
-// The place of a word's lowest member; 64 where it has none.
+// The place of a word's lowest member; 64, as the machine counts, where it has none: whoever asks has a member.
 pub fn lowest(word: u64) -> usize
     ensures { result ≡ count_trailing_zeros 64 word }
 {

@@ -1,12 +1,13 @@
--- The starts of parts in a row, as a loop stores them, and that each part lies in the section that all of them fill. Assumes nothing.
-use Rattle.std.proofs.Common.{ℕ, suc, ◌+◌, ◌*◌, ◌/◌, ◌≤◌, ◌<◌, ◌≡◌, List, length, get_or, set, replicate, sym, add-one, arith}
+-- The starts of parts in a row, as a loop stores them, and that each part lies in the section that all of them fill; a map's entries there. Assumes nothing.
+use Rattle.std.proofs.Common.{ℕ, suc, ◌+◌, ◌-◌, ◌*◌, ◌/◌, ◌≤◌, ◌<◌, ◌≡◌, List, length, get_or, set, replicate, drop, sym, ◌∙◌, add-one, length-take, length-drop, get_or-take, get_or-drop, arith}
+use Rattle.std.specs.List.{slice_range}
 use Rattle.model.specs.Bytes.{Bytes}
 use Rattle.model.specs.Layout.{Plan, map_count, supplied_count, source}
-use Rattle.model.specs.DataSets.{DataSet, size, entry_start, member_start}
+use Rattle.model.specs.DataSets.{DataSet, size, entry_start, entry, member_start}
 use Rattle.primitives.proofs.Filling.{entry_next}
 use Rattle.dataset.specs.declared.layout.DataLayout.{DataLayout}
 use Rattle.dataset.specs.Layout.{PartsPlaced, set_of}
-use Rattle.dataset.specs.Entries.{EntriesReady}
+use Rattle.dataset.specs.Entries.{EntriesReady, EntriesOf}
 use Rattle.dataset.specs.Supplied.{SuppliedReady}
 use Rattle.dataset.proofs.Framing.{grows}
 
@@ -36,6 +37,27 @@ entries_inside {maps} {layout} m ready lt =
     let last = map_count ready.plan in
     let at : m < last = rw ready.maps_are lt in
     omega (arith, ready.placed.begin m at, ready.placed.end_is, entry_start_grows ready.plan (set_of layout) (suc m) last at)
+
+-- an element of a part of a list, and the length of the part
+pub in_part : {A : Type 0} (l : List A) (from to k : ℕ) (d : A) → from + k < to → get_or (slice_range l from to) k d ≡ get_or l (from + k) d
+in_part l from to k d lt = let inside : k < to - from = omega arith in get_or-take (to - from) (drop from l) k d inside ∙ get_or-drop from l k d
+
+pub part_long : {A : Type 0} (l : List A) (from to : ℕ) → from ≤ to → to ≤ length l → length (slice_range l from to) + from ≡ to
+part_long l from to le inside = omega (arith, length-take (to - from) (drop from l), length-drop from l)
+
+-- a part of the section, from where a map's entries begin and as long as they are
+pub entries_of : (P : Plan) (layout : DataLayout) (map : ℕ) {start count : ℕ} → start + 2 * count ≤ length layout.entries.now
+    → count ≡ size (set_of layout) (source P map) → start ≡ entry_start P (set_of layout) map
+    → EntriesOf P (set_of layout) map (slice_range layout.entries.now start (start + 2 * count))
+unfolding entry
+entries_of P layout map {start} {count} inside counted begins =
+    let part = λ (k : ℕ). in_part layout.entries.now start (start + 2 * count) k 0 in
+    record {
+      long = omega (arith, counted, part_long layout.entries.now start (start + 2 * count));
+      entry_at = λ k lt.
+          let next : start + (2 * k + 1) ≡ start + 2 * k + 1 = omega arith in
+          rw (part (2 * k) (omega (arith, counted)), part (2 * k + 1) (omega (arith, counted)), next, begins);
+    }
 
 -- the members of a partition begin in a section that the partitions fill
 pub members_inside : {supplied : Bytes} {layout : DataLayout} (k : ℕ) → SuppliedReady supplied layout → k < length supplied / 2

@@ -1,13 +1,18 @@
 -- The entries of a data set's maps: of one map, as numbers, and of all.
-use Rattle.std.specs.Prelude.{ℕ, ◌+◌, ◌*◌, ◌/◌, ◌≤◌, ◌≡◌, Bool, length}
+use Rattle.std.specs.Prelude.{ℕ, ◌+◌, ◌*◌, ◌/◌, ◌≤◌, ◌<◌, ◌≡◌, Bool, length}
 use Rattle.model.specs.Tests.{every, pick, ◌=?◌, ◌<?◌}
 use Rattle.model.specs.Bytes.{Bytes, u16}
 use Rattle.model.specs.Outcomes.{require, scan, Outcome}
-use Rattle.model.specs.Layout.{Plan, map_count}
-use Rattle.model.specs.DataSets.{DataSet, NONE, entries_check}
+use Rattle.model.specs.Layout.{Plan, map_count, source}
+use Rattle.model.specs.DataSets.{DataSet, NONE, size, entry, entries_check}
 use Rattle.model.specs.declared.Refusal.TheVariants.{InvalidEntry}
 use Rattle.dataset.specs.declared.layout.DataLayout.{DataLayout}
 use Rattle.dataset.specs.Layout.{EntriesPlaced}
+
+-- the entries of one map
+pub record EntriesOf (P : Plan) (D : DataSet) (map : ℕ) (entries : Bytes) : Type 0 where
+  pub long : length entries ≡ 2 * size D (source P map)
+  pub entry_at : (k : ℕ) → k < size D (source P map) → u16 entries (2 * k) ≡ entry P D map k
 
 -- whether an entry leads below the limit, or is none where the map is partial
 abbrev pub entry_fitting : ℕ → Bool → ℕ → Bool

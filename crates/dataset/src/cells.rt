@@ -15,7 +15,7 @@ pub fn piece_count(data: &[u8]) -> usize
     byte_at(data, 3)
 }
 
-// The number of elements of a region.
+// The number of elements of a region, of any whose cell has a place that 64 bits can say.
 #[tactic(auto, unfolding(model::specs::DataSets::size))]
 pub fn region_size(sizes: &[u8], region: usize) -> usize
     requires { 2 * region < 2 ^ 64 }

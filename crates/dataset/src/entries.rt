@@ -10,9 +10,9 @@ use crate::cells::region_size;
 use crate::layout::DataLayout;
 use bitsets::words::u16_inside;
 use model::Refusal;
-use primitives::records::{map_source, map_target, map_totality};
+use primitives::records::{map_target, map_totality};
 
-// The entry that leads to no element.
+// The entry that leads to no element, as the format has it.
 const NONE: u16 = 65535;
 
 // The entries of one map, two bytes each, all of which lead below the limit, or are none where the map is partial.
@@ -67,10 +67,8 @@ fn check_map(maps: &[u8], layout: &DataLayout, map: usize) -> Result<(), Refusal
     requires listed { map < length maps.now / 3 }
     ensures { (P : Plan) → P.maps ≡ maps.now → EntriesPlaced P layout.now → result ≡ entries_check P (set_of layout.now) map }
 {
-    let start = layout.entry_starts[map];
-    let end = start + 2 * region_size(layout.sizes, map_source(maps, map));
     let entries = MapEntries {
-        bytes: &layout.entries[start..end],
+        bytes: layout.map_entries(maps, map),
         limit: region_size(layout.sizes, map_target(maps, map)) as u16,
         is_partial: map_totality(maps, map) == 0,
     };

@@ -19,7 +19,8 @@ pub const DATA_SECTIONS: usize = 4;
 // N is at most this.
 const MOST_PIECES: usize = 16;
 
-// Where so many parts that stand in a row begin, each as wide as told, and where the last one ends.
+// Where so many parts that stand in a row begin, each as wide as told, and where the last one ends. None is wider than 255
+// pieces of 8192 bytes, the most that a byte and a size of 16 bits can say, so that no sum wraps.
 fn place_parts<const N: usize, W: Fn(usize) -> usize>(count: usize, width: W) -> ([usize; N], usize)
     requires few { (count ≤ N) × (N ≤ 16) }
     requires callable { (part : ℕ) → part < count → W.pre width part }
@@ -52,7 +53,7 @@ fn place_members(supplied: &[u8], pieces: usize, sizes: &[u8]) -> ([usize; 8], u
 {
     place_parts(supplied.len() / 2, |partition| {
         let size = region_size(sizes, supplied_region(supplied, partition));
-        pieces * ((size + 7) / 8)
+        pieces * size.div_ceil(8)
     })
 }
 

@@ -1,6 +1,5 @@
 // The supplied partitions: whether each keeps its flags.
 ghost use Rattle.std.specs.Prelude.{◌≡◌, ◌+◌, ◌/◌, ◌≤◌, ◌<◌, length};
-ghost use Rattle.model.specs.Tests.{◌or◌, ◌=?◌};
 ghost use Rattle.model.specs.Layout.{Plan};
 ghost use Rattle.model.specs.DataSets.{declarations_hold};
 ghost use Rattle.dataset.specs.Columns.{column_of, piece_word, column_at, columns_keep_flags};
@@ -12,22 +11,7 @@ use crate::layout::DataLayout;
 use bitsets::words::{eight_bytes, reverse_bytes, word_below, word_between};
 use model::Refusal;
 use primitives::outcomes::require;
-use primitives::records::{supplied_flags, supplied_region};
-
-// What a supplied partition's flags declare it to be.
-const DISJOINT: usize = 1;
-
-const COMPLETE: usize = 2;
-
-const BOTH: usize = 3;
-
-// Whether the flags declare a partition to be that.
-#[tactic(auto, using(primitives::proofs::OpenTests::tests_open))]
-fn is_declared(flags: usize, flag: usize) -> bool
-    ensures { result ≡ (flags =? flag or flags =? 3) }
-{
-    flags == flag || flags == BOTH
-}
+use primitives::records::{COMPLETE, DISJOINT, is_declared, supplied_flags, supplied_region};
 
 // Eight bytes of each piece: the elements in some piece, and those in two.
 #[derive(Clone, Copy)]
@@ -54,7 +38,7 @@ impl SuppliedPieces<'_> {
     fn width(&self) -> usize
         ensures { result ≡ (self.now.size + 7) / 8 }
     {
-        (self.size + 7) / 8
+        self.size.div_ceil(8)
     }
 
     // The elements of a column.
@@ -96,7 +80,7 @@ impl SuppliedPieces<'_> {
     fn keep_flags(&self) -> bool
         ensures { result ≡ columns_keep_flags self.now.members.now self.now.size self.now.pieces self.now.is_disjoint self.now.is_complete }
     {
-        (0..(self.size + 63) / 64).all(|column| self.column_keeps_flags(column))
+        (0..self.size.div_ceil(64)).all(|column| self.column_keeps_flags(column))
     }
 }
 

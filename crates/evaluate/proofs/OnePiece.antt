@@ -4,9 +4,8 @@ use mathlib.Core.Path.{◌≡◌, sym, ap, ap₂, ◌∙◌}
 use mathlib.Core.List.{List}
 use native.Mathlib.Omega.{arith}
 use lib.ListN.{length}
-use Rattle.model.specs.Bytes.{Bytes}
 use Rattle.model.specs.Layout.{Plan}
-use Rattle.model.specs.DataSets.{DataSet, data_of, pieces}
+use Rattle.model.specs.DataSets.{DataSet, pieces}
 use Rattle.model.specs.Membership.{member}
 use Rattle.model.specs.Words.{holds, word}
 use Rattle.model.proofs.Words.{store_length, store_same}

@@ -8,17 +8,16 @@ use lib.ListN.{length}
 use Rattle.std.specs.Prelude.{Ok, Err}
 use Rattle.model.specs.Tests.{◌≤?◌}
 use Rattle.model.specs.Bytes.{Bytes}
-use Rattle.model.specs.Outcomes.{require, ◌then◌, conclude, Outcome}
+use Rattle.model.specs.Outcomes.{require, ◌then◌, conclude}
 use Rattle.model.specs.Layout.{Plan, plan_of}
-use Rattle.model.specs.Verdict.{plan_check, accepted, verdict}
+use Rattle.model.specs.Verdict.{plan_check, verdict}
 use Rattle.model.specs.DataSets.{DataSet, data_of, data_check}
-use Rattle.model.specs.Evaluation.{words_needed, inputs_check, output_check, evaluation_check, evaluation, filled_words}
+use Rattle.model.specs.Evaluation.{words_needed, inputs_check, evaluation_check, evaluation, filled_words}
 use Rattle.model.specs.Promises.{EvaluationPromise}
-use Rattle.model.specs.declared.Acceptance.{Acceptance}
 use Rattle.model.specs.declared.Refusal.{Refusal}
 use Rattle.model.specs.declared.Refusal.TheVariants.{OutputTooSmall}
 use Rattle.model.proofs.Tests.{most, most!, fails, refuted}
-use Rattle.model.proofs.Outcomes.{then_assoc, passes_then, required, conclude_ok, conclude_refused}
+use Rattle.model.proofs.Outcomes.{passes_then, required, conclude_ok, conclude_refused}
 use Rattle.model.proofs.EvaluationPromise.{evaluation_promise}
 use Rattle.layout.specs.Sections.{plan_in}
 use Rattle.plan.specs.declared.reading.Reading.{Reading}

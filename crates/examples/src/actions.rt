@@ -22,7 +22,8 @@ impl Built<'_> {
         print_answer(out, plan::check(self.plan))
     }
 
-    // Evaluates the plan with so many words lent, at most 6144, all of whose bits are 1 before, and prints the answer and the members.
+    // Evaluates the plan with so many words lent, at most 6144, all of whose bits are 1 before, and prints the answer and the
+    // members.
     pub fn evaluate<W: Write>(self, out: &mut W, lent: usize) -> io::Result<()> {
         let mut words = [u64::MAX; MOST_WORDS];
         let Some(lent_words) = words.get_mut(..lent) else {

@@ -4,6 +4,7 @@ use crate::tokens::{Words, number};
 use std::alloc::{AllocError, Global};
 
 // How a word of a case is laid out: a number in one byte or in two, or elements as bits, the highest first.
+// A value, since it holds from one line to the next, and matched once (`append_word`).
 #[derive(Clone, Copy)]
 pub enum Unit {
     Byte,
@@ -43,7 +44,8 @@ impl Draft {
         self.section = None;
     }
 
-    // What is appended from now on is the body of a section, whose length is 0 still. None is counted that stands before any edition.
+    // What is appended from now on is the body of a section, whose length is 0 still. None is counted that stands before any
+    // edition.
     pub fn open(&mut self) -> Result<(), AllocError> {
         let start = self.bytes.len();
         self.push(0)?;

@@ -7,12 +7,12 @@ use std::alloc::{AllocError, Global};
 use std::io;
 use std::io::Write;
 
-// How many bytes a case may build.
+// How many bytes a case may build: a line's `times` could ask for any number.
 const PLAN_ROOM: usize = 131_072;
 
 const DATA_ROOM: usize = 32_768;
 
-// Which of the two is being built.
+// Which of the two is being built: a value that holds from one line to the next, matched once (`draft`).
 #[derive(Clone, Copy)]
 enum Part {
     Plan,
@@ -72,11 +72,7 @@ impl Case {
             b"evaluate" => self.built().evaluate(out, words.number_or(MOST_WORDS))?,
             b"explain" => self.built().explain(out, Request::read(words))?,
             b"charge" => self.built().charge(out, words)?,
-            _ => {
-                out.write_all(b"unknown word ")?;
-                out.write_all(line)?;
-                out.write_all(b"\n")?
-            }
+            _ => print_unknown(out, line)?,
         }
         Ok(())
     }
@@ -132,4 +128,11 @@ impl Case {
         }
         Ok(())
     }
+}
+
+// Says that nothing is known of a line's first word.
+fn print_unknown<W: Write>(out: &mut W, line: &[u8]) -> io::Result<()> {
+    out.write_all(b"unknown word ")?;
+    out.write_all(line)?;
+    out.write_all(b"\n")
 }

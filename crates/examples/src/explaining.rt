@@ -39,7 +39,8 @@ impl Request {
 const UNTOUCHED: u16 = 65535;
 
 impl Built<'_> {
-    // Explains a membership with places lent, at most 48 for each slice, and prints the answer, the pairs, and whether a place behind them is changed.
+    // Explains a membership with places lent, at most 48 for each slice, and prints the answer, the pairs, and whether a place
+    // behind them is changed. Two arrays, and not one of pairs, since `explain` is lent them so (C interface).
     pub fn explain<W: Write>(self, out: &mut W, request: Request) -> io::Result<()> {
         let mut nodes = [UNTOUCHED; 48];
         let mut elements = [UNTOUCHED; 48];

@@ -26,7 +26,7 @@ mod explaining;
 mod tokens;
 
 use cases::Case;
-use files::read_file;
+use files::read_start;
 use std::alloc::Global;
 use std::io;
 use std::io::{BufWriter, Write};
@@ -55,7 +55,7 @@ fn without_comment(line: &[u8]) -> &[u8] {
 
 // Runs the cases of a file.
 fn run_file<R: Files + Print + Eprint + AllocGlobal>(rt: &R, path: &[u8]) -> io::Result<()> {
-    let Some(text) = read_file(rt, path, TOO_LONG) else {
+    let Some(text) = read_start(rt, path, TOO_LONG) else {
         return Ok(());
     };
     if text.len() == TOO_LONG {

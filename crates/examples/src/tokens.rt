@@ -60,6 +60,7 @@ fn digit(byte: u8) -> usize
 }
 
 // A word as a number: 65535 for none, and the greatest of 64 bits for any that is not below it.
+// Not by `parse`, which takes text alone and refuses what is too great: a word is any bytes, and each has its number here.
 pub fn number(word: &[u8]) -> usize {
     match word {
         b"none" => 65535,

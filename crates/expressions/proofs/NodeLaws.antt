@@ -1,6 +1,6 @@
 -- Section 5: a record's region and key, the checks of a node in order, and the tables of the nodes so far. Assumes nothing.
 use Prim.Native.Nat.{ℕ, zero, suc, min, ◌+◌, ◌≤◌, ◌<◌}
-use mathlib.Core.Path.{◌≡◌, refl, sym, ◌∙◌}
+use mathlib.Core.Path.{◌≡◌, refl}
 use mathlib.Core.Bool.{Bool, true, false, and-true}
 use mathlib.Core.Logic.{inl, inr}
 use mathlib.Core.List.{List}
@@ -8,27 +8,27 @@ use native.Mathlib.Omega.{arith}
 use lib.ListN.{get_or, length, set, take}
 use denote.Enum.Bare.{sameb}
 use denote.Enum.Declared.{tag_of}
-use Rattle.std.specs.Prelude.{Ok, Err}
+use Rattle.std.specs.Prelude.{Ok}
+use Rattle.std.proofs.Math.Bool.{and_assoc}
 use Rattle.std.proofs.lemmas.List.Folds.{list_any_more}
 use Rattle.std.specs.Bool.{then_some, nat_eq}
 use Rattle.std.specs.List.{list_any}
 use native.Mathlib.Numerals.{add-one}
 use Rattle.std.specs.Option.{ok_or}
-use Rattle.model.specs.Tests.{Is, ◌and◌, ◌or◌, any, ◌=?◌, ◌<?◌}
+use Rattle.model.specs.Tests.{Is, ◌and◌, ◌or◌, any, ◌=?◌}
 use Rattle.model.specs.Recursion.{below}
-use Rattle.model.specs.Outcomes.{require}
 use Rattle.model.specs.Layout.{Plan, node_count, node_a, node_kind, node_unused}
-use Rattle.model.specs.Nodes.{node_kind_of, node_kind_at, node_check, duplicate_node, same_node, operands_earlier, operand_and_map, node_formed_by, node_formed, operands_of_one_region, node_agrees_by, node_agrees, node_region_by, node_region, node_region_step}
+use Rattle.model.specs.Nodes.{node_kind_of, node_kind_at, node_check, duplicate_node, same_node, operands_earlier, operand_and_map, node_formed_by, node_formed, operands_of_one_region, node_agrees_by, node_region_by, node_region, node_region_step}
 use Rattle.model.specs.declared.NodeKind.{NodeKind}
 use Rattle.model.specs.declared.NodeKind.TheVariants.{Supplied, Equal, Union, Intersection, Difference, Image, Preimage, Unknown}
 use Rattle.model.specs.declared.Refusal.{Refusal}
 use Rattle.model.specs.contracts.NodeKind.{the_type}
-use Rattle.model.proofs.Tests.{falsum, both, pair, same, same!, less, latest, same_truth, fails, refuted}
+use Rattle.model.proofs.Tests.{falsum, both, pair, same, same!, latest, same_truth}
 use Rattle.model.proofs.Outcomes.{then_pass, require_pass}
-use Rattle.model.proofs.Recursion.{below_at, course_law}
+use Rattle.model.proofs.Recursion.{course_law}
 use Rattle.primitives.proofs.Scanning.{Scanning}
 use Rattle.primitives.proofs.Searches.{any_same}
-use Rattle.expressions.specs.Nodes.{kind_byte, node_key, NodeKeyOf, NodeRead, EarlierRegions, EarlierNodes, NodePasses}
+use Rattle.expressions.specs.Nodes.{kind_byte, node_key, NodeKeyOf, NodeRead, EarlierNodes, NodePasses}
 use Rattle.expressions.specs.declared.records.Node.{Node}
 use Rattle.expressions.specs.declared.nodes.CheckedNode.{CheckedNode}
 use Rattle.expressions.specs.declared.nodes.NodeTables.{NodeTables}
@@ -38,27 +38,10 @@ use Rattle.primitives.proofs.Filling.{entry_next}
 pub equal_alike : {a b c d : ℕ} → (a ≡ b → c ≡ d) → (c ≡ d → a ≡ b) → (a =? b) ≡ (c =? d)
 equal_alike f g = same_truth (λ h. same! (f (same h))) (λ h. same! (g (same h)))
 
--- a last byte that is 0, and one that is not
-module _ {P : Plan} {j : ℕ} {node : Node} (read : NodeRead P j node) where
-  pub unused_zero : node.unused ≡ 0 → Is (node_unused P j =? 0)
-  unused_zero h = same! (sym read.unused ∙ h)
-
-  pub unused_set : (node.unused ≡ 0 → ⊥) → (node_unused P j =? 0) ≡ false
-  unused_set h = fails (refuted (λ e. h (read.unused ∙ same e)))
-
--- what is said of node j, by its kind as it was read
-module _ {P : Plan} {j : ℕ} {node : Node} (read : NodeRead P j node) {kind : NodeKind} (is : node.kind ≡ kind) where
-  pub kind_formed : node_formed P j ≡ (node_unused P j =? 0 and node_formed_by P kind j)
-  unfolding node_formed
-  kind_formed = rw (← read.kind, is)
-
-  pub kind_agrees : node_agrees P j ≡ node_agrees_by P kind j
-  unfolding node_agrees
-  kind_agrees = rw (← read.kind, is)
-
-  pub kind_region : node_region P j ≡ node_region_by P kind j (below 0 j (node_region P))
-  unfolding node_region node_region_step
-  kind_region = course_law 0 (node_region_step P) j ∙ rw (← read.kind, is)
+-- the region of node j, by its kind
+pub region_at : (P : Plan) (j : ℕ) → node_region P j ≡ node_region_by P (node_kind_at P j) j (below 0 j (node_region P))
+unfolding node_region node_region_step
+region_at P j = course_law 0 (node_region_step P) j
 
 -- a node that passes is formed, of a known kind, and its last byte is 0
 module _ (P : Plan) (j : ℕ) where
@@ -100,20 +83,7 @@ one_operand P Image j least most = refl
 one_operand P Preimage j least most = refl
 one_operand P Unknown j least most = absurd (omega arith)
 
--- the region of an earlier node, as the table has it and as the region of node j is made from it
-module _ {P : Plan} {table : List ℕ} {j : ℕ} (earlier : EarlierRegions P table j) (k : ℕ) (lt : Is (k <? j)) where
-  pub earlier_region : get_or table k 0 ≡ node_region P k
-  earlier_region = earlier.region k (less lt)
-
-  pub region_below : below 0 j (node_region P) k ≡ node_region P k
-  region_below = below_at 0 j (node_region P) k (less lt)
-
--- a value that is there by a test, else a refusal: what the refusal and the value say of the test
-pub test_refused : (test : Bool) (v : ℕ) (q : Refusal) {r : Refusal} → ok_or (then_some test v) q ≡ Err r → require test q ≡ Err r
-unfolding require
-test_refused true v q h = cc
-test_refused false v q h = cc
-
+-- a value that is there by a test, else a refusal: what the value says of the test
 pub test_passed : (test : Bool) (v : ℕ) (q : Refusal) {w : ℕ} → ok_or (then_some test v) q ≡ Ok w → Is test × (w ≡ v)
 test_passed true v q h = (refl, cc)
 test_passed false v q h = cc
@@ -158,13 +128,21 @@ formed_byte P j formed =
     let known = formed_known P j _ (both formed).1 in
     (omega arith, omega arith)
 
--- a node's kind as it was read, compared with a known one
-pub kind_same : {P : Plan} {j : ℕ} {node : Node} → NodeRead P j node → (kind : NodeKind) → kind_byte kind < 7
-    → sameb the_type node.kind kind ≡ (node_kind P j =? kind_byte kind)
+-- a node's kind compared with a known one, by the kind and by its byte
+pub kind_same : (P : Plan) (j : ℕ) (kind : NodeKind) → kind_byte kind < 7 → (node_kind P j =? kind_byte kind) ≡ sameb the_type (node_kind_at P j) kind
 unfolding node_kind_at ◌=?◌
-kind_same {P} {j} read kind known =
+kind_same P j kind known =
     let least = byte_least (node_kind P j) in
-    rw (read.kind, tag_byte, tag_byte kind) (equal_alike (λ e. omega arith) (λ e. omega arith))
+    rw (tag_byte (node_kind_of (node_kind P j)), tag_byte kind) (equal_alike (λ e. omega arith) (λ e. omega arith))
+
+pub byte_same : (P : Plan) (j k : ℕ) → k < 7 → (node_kind P j =? k) ≡ sameb the_type (node_kind_at P j) (node_kind_of k)
+byte_same P j k known =
+    let byte : kind_byte (node_kind_of k) ≡ k = let least = byte_least k in omega arith in
+    let same = kind_same P j (node_kind_of k) (omega arith) in
+    rw byte at same
+
+-- and tests in a row, grouped as the definitions group them
+pub ruleset known_kinds = (byte_same, and_assoc)
 
 -- two nodes of bytes have one key where they are one node
 key_same : {k a b k' a' b' : ℕ} → k < 256 → a < 256 → b < 256 → k' < 256 → a' < 256 → b' < 256

@@ -1,17 +1,17 @@
 -- Section 7: what a step's key says that it concludes, and what its form and its record say of it. Assumes nothing.
-use Prim.Native.Nat.{ℕ, ◌+◌, ◌≤◌, ◌<◌}
+use Prim.Native.Nat.{ℕ, ◌+◌, ◌<◌}
 use mathlib.Core.Path.{◌≡◌}
-use mathlib.Core.Bool.{Bool, true, false}
+use mathlib.Core.Bool.{false}
 use mathlib.Core.List.{List}
 use native.Mathlib.Omega.{arith}
 use lib.ListN.{get_or, length, set}
-use Rattle.model.specs.Tests.{Is, ◌and◌, ◌=?◌, ◌≤?◌}
+use Rattle.model.specs.Tests.{◌and◌, ◌=?◌}
 use Rattle.model.specs.Layout.{Plan, step_count}
-use Rattle.model.specs.Lemmas.{lemma_row, is_subset, is_disjoint, is_complete, concludes_subset, concludes_disjoint, concludes_complete, in_use, step_licensed, step_check}
+use Rattle.model.specs.Lemmas.{lemma_row, is_subset, is_disjoint, is_complete, concludes_subset, concludes_disjoint, concludes_complete, step_licensed, step_check}
 use Rattle.model.specs.declared.Conclusion.{Conclusion}
 use Rattle.model.specs.declared.Conclusion.TheVariants.{Subset, Disjoint, Complete}
 use Rattle.model.specs.declared.Lemma.{Lemma}
-use Rattle.model.proofs.Tests.{both, pair, same, same!, less, most, fails, refuted, same_truth}
+use Rattle.model.proofs.Tests.{both, pair, same, same!, fails, refuted, same_truth}
 use Rattle.primitives.proofs.Scanning.{Scanning}
 use Rattle.expressions.proofs.NodeLaws.{equal_alike}
 use Rattle.expressions.specs.Steps.{subset_key, disjoint_key, complete_key, conclusion_key, StepRead, FormedStep, ConclusionKey, ConclusionKeys}
@@ -77,25 +77,6 @@ pub next_keys : {P : Plan} {t key : ℕ} {step : Step} {row : Lemma} (table : Li
     → ConclusionKeys P (t + 1) (set table t key)
 next_keys {P} {t} {key} table inside earlier x< y< read listed is =
     entry_next 0 (ConclusionKey P) table t key inside earlier (own_conclusion x< y< read listed is)
-
--- an operand is at most its bound, used or not
-in_use_most : (used : Bool) {bound v : ℕ} → Is (in_use used bound v) → v ≤ bound
-unfolding in_use
-in_use_most true h = let lt = less h in omega arith
-in_use_most false h = let e = same h in omega arith
-
--- what the form of step t says of its record
-pub formed_step : {step : Step} {t : ℕ} {x y p q : Bool} (row : Lemma) (count : ℕ) → x ≡ in_use row.x count step.x
-    → y ≡ in_use row.y count step.y → p ≡ in_use row.p t step.p → q ≡ in_use row.q t step.q
-    → Is (1 ≤? step.lemma and step.lemma ≤? 21 and x and y and p and q) → FormedStep step t
-formed_step row count x y p q formed =
-    let operands = (both (both (both (both formed).1).1).1).1 in
-    record {
-      from = most (both formed).0;
-      to = most (both (both formed).1).0;
-      p = in_use_most _ (rw p at (both operands).0);
-      q = in_use_most _ (rw q at (both operands).1);
-    }
 
 -- what steps p and q of step t conclude, as the table has it
 pub premise_keys : {P : Plan} {step : Step} {t : ℕ} {r : Premises} (table : List ℕ) → ConclusionKeys P (t + 1) table → FormedStep step t

@@ -1,4 +1,6 @@
 // Section 5: expressions.
+// The sections' bodies are slices: they are handed to each section's reader (project's form). A record's place is made of j, so
+// that it is asked to be a number of the machine.
 // Numbers are narrowed by `as`: the bound is proved, and `try_from` would have a case that never comes.
 ghost use Rattle.std.specs.Prelude.{◌≡◌, ℕ, ◌+◌, ◌*◌, ◌/◌, ◌^◌, ◌≤◌, ◌<◌, length, IfSome};
 ghost use Rattle.model.specs.Layout.{Plan};
@@ -27,7 +29,8 @@ struct CheckedNode {
     key: u32,
 }
 
-// The region and the key of each node. Two arrays, not one of pairs: several keys are compared at once.
+// The region and the key of each node. Two arrays, not one of pairs: several keys are compared at once. No `ArrayVec`, which is
+// not `Copy`; and how many nodes there are is known where the tables are read.
 #[derive(Clone, Copy, Debug, PartialEq, Eq)]
 pub struct NodeTables {
     pub regions: [u8; 48],
@@ -62,24 +65,25 @@ fn read_node(nodes: &[u8], j: usize) -> Node
     ])
 }
 
-// Three bytes of a record, kind, a and b, as one number, which is compared faster than they are.
-pub fn record_key(kind: usize, a: usize, b: usize) -> u32
+// Kind, a and b as one key, which is compared faster than they are. It has a byte for each: `Node` holds the bounds of its own.
+pub fn node_key(kind: usize, a: usize, b: usize) -> u32
     requires { (kind < 256) × ((a < 256) × (b < 256)) }
     ensures { result ≡ node_key kind a b }
 {
     (kind + a * 256 + b * 65536) as u32
 }
 
-// The same of a node's kind and operands.
-pub fn node_key(kind: NodeKind, a: usize, b: usize) -> u32
+// The key of a node of this kind, by `as`: the number of an enum's case has no `From`.
+pub fn key_of(kind: NodeKind, a: usize, b: usize) -> u32
     requires { (a < 256) × (b < 256) }
     ensures { result ≡ node_key (kind_byte kind) a b }
 {
-    record_key(kind as usize, a, b)
+    node_key(kind as usize, a, b)
 }
 
 impl Declarations<'_> {
     // Whether the last byte of node j is 0, and a and b are as its kind has them: listed, an operand before j, unused 0.
+    #[tactic(auto, using(primitives::proofs::OpenTests::tests_open, crate::proofs::NodeLaws::two_operands, crate::proofs::NodeLaws::one_operand), unfolding(model::specs::Nodes::node_formed, model::specs::Nodes::node_formed_by))]
     fn is_formed(&self, node: Node, j: usize) -> bool
         ensures { (P : Plan) → Declared P self.now → NodeRead P j node → result ≡ node_formed P j }
     {
@@ -101,6 +105,7 @@ impl Declarations<'_> {
 
     // The region of a formed node, from the regions of earlier nodes; none where those of its operands disagree, with each other
     // or with its map.
+    #[tactic(auto, using(primitives::proofs::OpenTests::tests_open, crate::proofs::NodeLaws::region_at), unfolding(model::specs::Nodes::node_formed, model::specs::Nodes::node_formed_by, model::specs::Nodes::node_agrees, model::specs::Nodes::node_agrees_by, model::specs::Nodes::node_region_by))]
     fn region_of(&self, earlier: &[u8], node: Node) -> Option<usize>
         ensures small { IfSome result (λ region. region < 256) }
         ensures read { (P : Plan) (j : ℕ) → Declared P self.now → NodeRead P j node → RegionRead P j earlier.now result }
@@ -123,6 +128,7 @@ impl Declarations<'_> {
     }
 
     // At node j: its form, the regions of its operands, and that no earlier node is equal.
+    #[tactic(auto, using(primitives::proofs::Stages::stages), unfolding(model::specs::Nodes::node_check))]
     fn check_node(
         &self,
         nodes: &[u8],
@@ -138,7 +144,7 @@ impl Declarations<'_> {
         let region = self
             .region_of(&earlier.regions, node)
             .ok_or(Refusal::RegionMismatch(place))?;
-        let key = node_key(node.kind, node.a, node.b);
+        let key = node.key();
         require(!earlier.keys[..j].contains(&key), Refusal::DuplicateNode(j))?;
         Ok(CheckedNode {
             region: region as u8,
@@ -148,6 +154,7 @@ impl Declarations<'_> {
 }
 
 // Section 5: the first refusal of its nodes in order, or the tables of their regions and keys.
+#[tactic(auto, using(primitives::proofs::Scanning::scanned))]
 pub fn check_nodes(
     regions: &[u8],
     maps: &[u8],

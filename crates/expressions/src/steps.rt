@@ -1,4 +1,4 @@
-// Section 7: lemma steps.
+// Section 7: lemma steps. The sections' bodies are slices: they are handed to each section's reader (project's form).
 // Numbers are narrowed by `as`: the bound is proved, and `try_from` would have a case that never comes.
 ghost use Rattle.std.specs.Prelude.{◌≡◌, ◌+◌, ◌*◌, ◌/◌, ◌≤◌, ◌<◌, length};
 ghost use Rattle.model.specs.Tests.{Is};
@@ -33,7 +33,8 @@ fn step_at(steps: &[u8], t: usize) -> Step
     ])
 }
 
-// SUB(x, y) as a key: one number for what a step concludes. An enum of the three is searched in more than twice the time.
+// SUB(x, y) as a key: one number for what a step concludes. An enum of the three is searched in more than twice the time. It has
+// a byte for x and one for y: `Step` holds the bounds of its own, and no struct those of a variable's bound in a node.
 pub fn subset_key(x: usize, y: usize) -> u32
     requires { (x < 256) × (y < 256) }
     ensures { result ≡ subset_key x y }
@@ -71,27 +72,34 @@ fn conclusion_key(conclusion: Conclusion, x: usize, y: usize) -> u32
 }
 
 // A number that is used is below its bound; one that is not is 0.
+#[tactic(auto, using(primitives::proofs::OpenTests::tests_open), unfolding(model::specs::Lemmas::in_use))]
 fn in_use(used: bool, bound: usize, number: usize) -> bool
-    ensures { result ≡ in_use used bound number }
+    ensures used { result ≡ in_use used bound number }
+    ensures most { Is result → number ≤ bound }
 {
     if used { number < bound } else { number == 0 }
 }
 
-// Whether the lemma of step t is known, and x, y, p and q are as its row has them.
-fn is_formed(nodes: &[u8], step: Step, row: Lemma, t: usize) -> bool
-    requires { row ≡ lemma_row step.lemma }
-    ensures { (Is result → FormedStep step t) × ((P : Plan) → P.nodes ≡ nodes.now → StepRead P t step → result ≡ step_formed P t) }
-{
-    let count = nodes.len() / 4;
-    let x = in_use(row.x, count, step.x);
-    let y = in_use(row.y, count, step.y);
-    let p = in_use(row.p, t, step.p);
-    let q = in_use(row.q, t, step.q);
-    (1 <= step.lemma) & (step.lemma <= 21) & x & y & p & q
+impl Step {
+    // Whether, as step t, its lemma is known, and x, y, p and q are as its row has them.
+    #[tactic(auto, using(primitives::proofs::OpenTests::tests_open), unfolding(model::specs::Lemmas::step_formed))]
+    fn is_formed(self, nodes: &[u8], row: Lemma, t: usize) -> bool
+        requires { row ≡ lemma_row self.lemma }
+        ensures formed { Is result → FormedStep self t }
+        ensures read { (P : Plan) → P.nodes ≡ nodes.now → StepRead P t self → result ≡ step_formed P t }
+    {
+        let count = nodes.len() / 4;
+        let x = in_use(row.x, count, self.x);
+        let y = in_use(row.y, count, self.y);
+        let p = in_use(row.p, t, self.p);
+        let q = in_use(row.q, t, self.q);
+        (1 <= self.lemma) & (self.lemma <= 21) & x & y & p & q
+    }
 }
 
-// Section 7: the first refusal of its steps in order, and the table of what they conclude. The table is lent: handed out, its copies
-// make the check of three steps a fifth slower.
+// Section 7: the first refusal of its steps in order, and the table of what they conclude. The table is lent: handed out, its
+// copies make the check of three steps a fifth slower.
+#[tactic(auto, using(primitives::proofs::Scanning::scanned, primitives::proofs::Stages::stages))]
 pub fn check_steps(
     maps: &[u8],
     supplied: &[u8],
@@ -107,7 +115,7 @@ pub fn check_steps(
         let row = lemma_row(step.lemma);
         conclusions[t] = conclusion_key(row.conclusion, step.x, step.y);
         require(
-            is_formed(nodes, step, row, t),
+            step.is_formed(nodes, row, t),
             Refusal::InvalidRecord(7 * 256 + t),
         )?;
         let premises = Premises {

@@ -9,7 +9,8 @@ use model::Refusal;
 use primitives::bytes::u16_at;
 use primitives::outcomes::require;
 
-// A plan of edition 1 whose first sections were read and passed, and the place after them.
+// A plan of edition 1 whose first sections, `read` of them, passed, and the place after them. The whole plan and a place, not a
+// rest slice: bytes after the last section are refused at their place in the plan. The number picks the next section's row.
 #[derive(Drop)]
 pub struct SectionReader<'a> {
     plan: &'a [u8],

@@ -63,7 +63,8 @@ fn shape_of(section: usize) -> Shape
     SHAPES[section]
 }
 
-// Whether a section, numbered from 0, whose length `size` stands at a place, ends within the bytes and has whole records, as many as it may.
+// Whether a section, numbered from 0, whose length `size` stands at a place, ends within the bytes and has whole records, as
+// many as it may.
 #[tactic(auto, using(primitives::proofs::OpenTests::tests_open, primitives::proofs::Stages::stages), unfolding(crate::specs::Frames::length_check))]
 pub fn check_section(bytes: usize, at: usize, size: usize, section: usize) -> Result<(), Refusal>
     requires { Placed bytes at size section }

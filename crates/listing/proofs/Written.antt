@@ -15,3 +15,6 @@ then_written None b c s t first second = tt
 then_written (Some x) None c s t first second = absurd first
 then_written (Some x) (Some y) None s t first second = absurd second
 then_written (Some x) (Some y) (Some z) s t first second = second ∙ ap (λ l. l ++ t) first ∙ append_assoc x s t
+
+-- what the proofs of loops that write cite
+pub ruleset written = (none_written, then_written)

@@ -72,7 +72,7 @@ pub fn print_pair<W: Write>(out: &mut W, node: u16, element: u16) -> io::Result<
 }
 
 // Writes the lines of a node's pieces, each with a number in front.
-#[tactic(auto, using(crate::proofs::Written::none_written, crate::proofs::Written::then_written), unfolding(crate::specs::Text::pieces_text, crate::specs::Text::piece_text, crate::specs::Text::spaced))]
+#[tactic(auto, using(crate::proofs::Written::written), unfolding(crate::specs::Text::pieces_text, crate::specs::Text::piece_text, crate::specs::Text::spaced))]
 pub fn print_node<W: Write>(
     out: &mut W,
     number: usize,

@@ -15,14 +15,12 @@ pub struct Members<'a> {
 
 impl Members<'_> {
     // Whether the set holds an element; words past the end hold none.
-    #[tactic(auto, using(crate::proofs::PastEnd::holds_none))]
+    #[tactic(auto, using(crate::proofs::PastEnd::holds_none, crate::proofs::PastEnd::holds_behind))]
     fn contains(&self, element: usize) -> bool
         ensures { result ≡ Words.holds self.now.words.now self.now.first element }
     {
-        if self.first >= self.words.len() || element / 64 >= self.words.len() - self.first {
-            return false;
-        }
-        holds(self.words, self.first, element)
+        let set = self.words.get(self.first..).unwrap_or_default();
+        element / 64 < set.len() && holds(set, 0, element)
     }
 }
 

@@ -1,31 +1,33 @@
 -- The accesses of loops, read from section 4's bytes and tables. Assumes nothing.
 use Prim.Native.Nat.{ℕ, ◌≤◌, ◌<◌}
-use mathlib.Core.Path.{◌≡◌, refl, ◌∙◌}
-use mathlib.Core.Bool.{Bool, true, false}
+use mathlib.Core.Path.{◌≡◌, refl, sym, ◌∙◌}
+use mathlib.Core.Bool.{Bool, true, false, not, ◌&&◌}
+use mathlib.Core.List.{List}
 use native.Mathlib.Omega.{arith}
 use lib.Dec.{ltb}
 use lib.ListN.{get_or, get_or-eq_default}
 use borrow.Author.Tests.{ltb-true, ltb-false}
 use Rattle.std.specs.Prelude.{Ok}
-use Rattle.model.specs.Tests.{Is}
+use Rattle.model.specs.Tests.{Is, ◌and◌, non}
 use Rattle.model.specs.Bytes.{Bytes}
 use Rattle.model.specs.Layout.{Plan, region_count, fields, statement_count, statement_b, statement_c}
-use Rattle.model.specs.Statements.{kind, access_of, is_access, accesses, operand_definition, operand_region, field_by, access_field, centered, statement_formed_by, statement_formed, statement_check}
-use Rattle.model.specs.Parallel.{is_reduce, reduces}
+use Rattle.model.specs.Statements.{kind, access_of, is_access, accesses, loop, operand_definition, operand_region, field_by, access_field, statement_formed_by, statement_formed, statement_check}
+use Rattle.model.specs.Parallel.{is_reduce, reduces, uncentered}
 use Rattle.model.specs.declared.Access.{Access}
 use Rattle.model.specs.declared.StatementKind.{StatementKind}
 use Rattle.model.specs.declared.StatementKind.TheVariants.{For, Load, Call, Copy, Read, Write, Reduce, Unknown}
 use Rattle.model.proofs.Tests.{falsum, both, less}
 use Rattle.model.proofs.Outcomes.{then_pass, require_pass}
 use Rattle.loops.specs.declared.statements.Statement.{Statement}
-use Rattle.loops.specs.declared.tables.StatementTables.{StatementTables}
+use Rattle.loops.specs.declared.tables.StatementLoops.{StatementLoops}
 use Rattle.loops.specs.Statements.{StatementAt}
-use Rattle.loops.specs.Parallel.{access_at, AccessLimits, LoopsKnown, PointersKnown}
+use Rattle.loops.specs.Parallel.{access_at, AccessLimits, LoopsKnown, PointersKnown, pointer_reduction}
 use Rattle.loops.proofs.StatementLaws.{operand_most}
+use Rattle.loops.proofs.Parallelizable.{own_reduction}
 
-module _ (P : Plan) {statements : Bytes} {tables : StatementTables} (known : LoopsKnown P statements tables) where
+module _ (P : Plan) {loops : StatementLoops} (known : LoopsKnown P loops) where
   pub access_is : {s : ℕ} → s < statement_count P → {r : Statement} → StatementAt P s r → {access : Access} {o region field : ℕ} {z : Bool}
-      → access ≡ access_of r.kind → field ≡ access_field P s → o ≡ get_or tables.operands s 0 → region ≡ get_or tables.variable_regions o 0 → z ≡ get_or tables.centered o false
+      → access ≡ access_of r.kind → field ≡ access_field P s → o ≡ get_or loops.tables.now.operands s 0 → region ≡ get_or loops.tables.now.variable_regions o 0 → z ≡ get_or loops.tables.now.centered o false
       → record { access = access; region = region; field = field; centered = z; operator = r.c } ≡ access_at P s
   unfolding access_at
   access_is {s} lt is a g o r z =
@@ -44,13 +46,15 @@ module _ (P : Plan) {statements : Bytes} {tables : StatementTables} (known : Loo
         is.c_is,
       )
 
-module _ (P : Plan) {statements : Bytes} {tables : StatementTables} (known : PointersKnown P statements tables) where
-  -- whether the variable that statement s works on is centered
-  pub operand_centered : (s : ℕ) → s < statement_count P → {o : ℕ} {z : Bool} → o ≡ get_or tables.operands s 0 → z ≡ get_or tables.centered o false
-      → z ≡ centered P (operand_definition P s)
-  operand_centered s lt o z =
+module _ (P : Plan) {statements : Bytes} {operands : List ℕ} {centers : List Bool} (known : PointersKnown P statements operands centers) where
+  -- statement s in its own loop, from what is read of its kind and of the variable that it works on
+  pub reduction_is : {s : ℕ} → s < statement_count P → {k : StatementKind} {a : Access} {o : ℕ} {r z : Bool}
+      → r ≡ is_reduce a → a ≡ access_of k → k ≡ kind P s → z ≡ get_or centers o false → o ≡ get_or operands s 0
+      → (r && not z) ≡ pointer_reduction P (loop P s) s
+  unfolding reduces uncentered non ◌and◌
+  reduction_is {s} lt r a k z o =
       let earlier : operand_definition P s < statement_count P = omega (arith, operand_most P s) in
-      rw (z, o, known.operands_are.holds s lt, known.centers_are.holds (operand_definition P s) earlier)
+      rw (r, a, k, z, o, known.operands_are.holds s lt, known.centers_are.holds (operand_definition P s) earlier) (sym (own_reduction P s))
 
 -- an access that passed its check is within the limits
 module _ (P : Plan) (few_regions : region_count P ≤ 16) (few_fields : (r : ℕ) → r < region_count P → fields P r ≤ 8) (s : ℕ) where

@@ -1,4 +1,4 @@
--- The variables and tables of section 4's reader follow the definitions from statement to statement. Assumes nothing.
+-- The pass of section 4's reader: its variables and tables follow the definitions from statement to statement. Assumes nothing.
 use Prim.Native.Nat.{ℕ, zero, suc, ◌+◌, ◌≤◌, ◌<◌}
 use mathlib.Core.Path.{◌≡◌, refl, sym, ◌∙◌}
 use mathlib.Core.List.{List}
@@ -20,12 +20,12 @@ use Rattle.model.proofs.Tests.{falsum, both, less, less!, pick_true, pick-false}
 use Rattle.model.proofs.Outcomes.{then_pass, require_pass}
 use Rattle.model.proofs.Recursion.{course_law}
 use Rattle.primitives.proofs.Filling.{zeros}
-use Rattle.primitives.proofs.Scanning.{Scanning, scanning_start, scanning_next}
+use Rattle.primitives.proofs.Scanning.{Scanning, scanning_start, scan_passes}
 use Rattle.loops.specs.declared.statements.StatementEntry.{StatementEntry}
 use Rattle.loops.specs.declared.tables.StatementTables.{StatementTables}
 use Rattle.loops.specs.declared.variables.Variables.{Variables}
 use Rattle.loops.specs.Tables.{Table, TablesHold, with_entry}
-use Rattle.loops.specs.Statements.{StatementContext, variables_of, LoopVariables, EntryAt, variables_after}
+use Rattle.loops.specs.Statements.{StatementContext, variables_of, LoopVariables, EarlierStatements, EntryAt, variables_after}
 use Rattle.loops.proofs.TableLaws.{empty, stored, earlier_holds}
 
 -- a list after a store, at every place
@@ -176,6 +176,14 @@ pass_start P =
     }
 
 module _ (P : Plan) {s : ℕ} {tables : StatementTables} {v : Variables} (pass : StatementPass P s v tables) where
+  pub earlier : EarlierStatements P s v tables
+  earlier =
+      record {
+        definitions_are = pass.variables_are.defined;
+        regions_are = pass.tables_are.regions_are;
+        centers_are = pass.tables_are.centers_are;
+      }
+
   -- the tables with statement s entered, and what its check asks of them
   module _ {entry : StatementEntry} (few : s < 64) (e : EntryAt P s entry) where
     pub entered : TablesHold P (s + 1) (with_entry s entry tables)
@@ -199,7 +207,7 @@ module _ (P : Plan) {s : ℕ} {tables : StatementTables} {v : Variables} (pass :
     pass_next lt p =
         let held = pass.variables_are in
         record {
-          scanning = scanning_next pass.scanning lt refl p;
+          scanning = scan_passes pass.scanning lt p;
           variables_are = variables_next P s v (λ d. rw held.count_is (room_left P s p d)) held;
           tables_are = entered;
         }

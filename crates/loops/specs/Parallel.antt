@@ -10,7 +10,7 @@ use Rattle.model.specs.Words.{bit}
 use Rattle.model.specs.declared.Access.{Access}
 use Rattle.model.specs.declared.Access.TheVariants.{Nothing, Reads, Writes, Reduces}
 use Rattle.loops.specs.declared.parallel.LoopAccess.{LoopAccess}
-use Rattle.loops.specs.declared.tables.StatementTables.{StatementTables}
+use Rattle.loops.specs.declared.tables.StatementLoops.{StatementLoops}
 use Rattle.loops.specs.Tables.{Table, TablesHold}
 
 -- the access of statement s
@@ -31,9 +31,9 @@ pub record AccessLimits (P : Plan) (s : ℕ) : Type 0 where
   pub operator_few : Is (reduces P s) → statement_c P s < 4
 
 -- a plan of these statements, of which the tables hold the values
-pub record LoopsKnown (P : Plan) (statements : Bytes) (t : StatementTables) : Type 0 where
-  pub section : P.statements ≡ statements
-  pub tables : TablesHold P (statement_count P) t
+pub record LoopsKnown (P : Plan) (loops : StatementLoops) : Type 0 where
+  pub section : P.statements ≡ loops.statements.now
+  pub tables : TablesHold P (statement_count P) loops.tables.now
   pub limits : (s : ℕ) → s < statement_count P → Is (accesses P s) → AccessLimits P s
 
 -- statement s is one of at most 64
@@ -79,10 +79,10 @@ unfoldable pub admitted : LoopAccess → List ℕ → Bool
 admitted a seen = non (is_access a.access) or compatible (get_or seen (target_number a) 0)
 
 -- a plan of these statements, of whose variables the tables hold the values
-pub record PointersKnown (P : Plan) (statements : Bytes) (tables : StatementTables) : Type 0 where
+pub record PointersKnown (P : Plan) (statements : Bytes) (operands : List ℕ) (centers : List Bool) : Type 0 where
   pub section : P.statements ≡ statements
-  pub operands_are : Table 0 (statement_count P) tables.operands (operand_definition P)
-  pub centers_are : Table false (statement_count P) tables.centered (centered P)
+  pub operands_are : Table 0 (statement_count P) operands (operand_definition P)
+  pub centers_are : Table false (statement_count P) centers (centered P)
 
 -- statement s is an uncentered REDUCE of the loop of FOR f
 unfoldable pub pointer_reduction : Plan → ℕ → ℕ → Bool

@@ -6,15 +6,15 @@ ghost use Rattle.model.specs.Parallel.{is_reduce};
 
 use model::{Access, StatementKind};
 
-// The kind that a number stands for.
+// The kind that a number stands for. A function for statements and one for nodes (`primitives::records::node_kind_of`): one for
+// both would take a trait that says of each enum what its definition is, longer than the two.
 #[tactic(auto, using(primitives::proofs::NoKinds::no_statement_kind))]
 pub fn kind_of(number: usize) -> StatementKind
     ensures { result ≡ kind_of number }
 {
-    if number < 256 {
-        StatementKind::from(number as u8)
-    } else {
-        StatementKind::Unknown
+    match u8::try_from(number) {
+        Ok(byte) => StatementKind::from(byte),
+        Err(_) => StatementKind::Unknown,
     }
 }
 

@@ -1,7 +1,6 @@
 // Which loops can run in parallel, by the classes of accesses that each region and field has in a loop.
-// The statements and the tables made of them are two parameters: a struct of the two references would put `self.entry` before
-// both in each clause, and say no more.
-// What stands in each clause is of both, the slice that section 4's reader is handed and the tables: no field of either.
+// What is known of statements and tables (`LoopsKnown`, `PointersKnown`) is of every plan that has them: no field holds a plan.
+// `s < 64` and `Within` are clauses where a slice is handed in: s is a place in it, and no struct holds it.
 ghost use Rattle.std.specs.Prelude.{◌≡◌, ◌/◌, ◌^◌, ◌<◌, ◌≤◌, length};
 ghost use Rattle.model.specs.Tests.{Is};
 ghost use Rattle.model.specs.Layout.{Plan, statement_count};
@@ -11,8 +10,8 @@ ghost use Rattle.model.specs.Verdict.{loops_check};
 ghost use Rattle.loops.specs.Parallel.{Within, access_at, LoopsKnown, LoopSpan, target_number, class, compatible, entered, admitted, PointersKnown, pointer_reduction};
 
 use crate::kinds::{access_of, is_access, is_reduce, opens_loop};
-use crate::statements::{field_of, kind_at, statement_at};
-use crate::tables::StatementTables;
+use crate::statements::{kind_at, statement_at};
+use crate::tables::StatementLoops;
 use model::{Access, Refusal};
 use primitives::bytes::byte_at;
 use primitives::lookup::entry_or;
@@ -27,35 +26,6 @@ pub struct LoopAccess {
     pub field: u8,
     pub centered: bool,
     pub operator: u8,
-}
-
-// The access of statement s.
-#[tactic(auto, using(crate::proofs::Accesses::access_is))]
-fn loop_access(statements: &[u8], tables: &StatementTables, s: usize) -> LoopAccess
-    requires { Within statements.now s }
-    ensures { (P : Plan) → LoopsKnown P statements.now tables.now → result ≡ access_at P s }
-{
-    let statement = statement_at(statements, s);
-    // In this order: with the operand looked up first, section 4 takes a fifth longer on a loop of 64 statements.
-    let access = access_of(statement.kind);
-    let field = field_of(statement);
-    let operand = byte_at(&tables.operands, s);
-    LoopAccess {
-        access,
-        region: byte_at(&tables.variable_regions, operand),
-        field,
-        centered: entry_or(&tables.centered, operand, false),
-        operator: statement.c,
-    }
-}
-
-// The number of an access's region and field, of 16 regions with 8 fields each. Numbers of a plan are below those, and
-// the remainders change none; they keep the table's bound for every byte.
-#[tactic(auto, unfolding(crate::specs::Parallel::target_number))]
-fn target_number(a: LoopAccess) -> usize
-    ensures { (result ≡ target_number a) × (result < 128) }
-{
-    a.region % 16 * 8 + usize::from(a.field % 8)
 }
 
 // The classes of accesses, a bit each and no enum: what is seen of a region and field is a byte, entered by an or and judged by
@@ -77,44 +47,56 @@ const THROUGH_POINTERS: u8 = !(CENTERED_READ | CENTERED_CHANGE);
 // Writes and reductions.
 const CHANGES: u8 = !(CENTERED_READ | POINTER_READ);
 
-// The class of an access.
-#[tactic(auto, using(crate::proofs::Classes::operator_bit), unfolding(crate::specs::Parallel::class, crate::specs::Parallel::class_by, model::specs::Tests::pick))]
-fn class_bit(a: LoopAccess) -> u8
-    ensures { result ≡ 2 ^ class a }
-{
-    match (a.access, a.centered) {
-        (Access::Nothing, _) => CENTERED_READ,
-        (Access::Reads, true) => CENTERED_READ,
-        (Access::Reads, false) => POINTER_READ,
-        (Access::Writes, true) => CENTERED_CHANGE,
-        (Access::Writes, false) => POINTER_WRITE,
-        (Access::Reduces, true) => CENTERED_CHANGE,
-        (Access::Reduces, false) => POINTER_REDUCTION << (a.operator % 4),
-    }
-}
-
 // Whether accesses of these classes can share a region and field: nothing goes through a pointer, nothing is changed, or
 // all are reductions through pointers by one operator.
 #[tactic(auto, using(crate::proofs::Classes::byte_rule))]
 fn is_compatible(classes: u8) -> bool
     ensures { result ≡ compatible classes }
 {
+    // `|` and no `matches!`, whose cases would have to be told apart in an answer.
     let one_operator = (classes == 16) | (classes == 32) | (classes == 64) | (classes == 128);
     (classes & THROUGH_POINTERS == 0) | (classes & CHANGES == 0) | one_operator
 }
 
-// Enters an access among those of its region and field; whether the loop can be parallelizable with it.
-#[tactic(auto, using(crate::proofs::Classes::not_entered, crate::proofs::Classes::entered_is, crate::proofs::Classes::not_asked, crate::proofs::Classes::admitted_is))]
-fn enter_access(seen: &mut [u8; 128], a: LoopAccess) -> bool
-    ensures { (seen.new ≡ entered a seen.old) × (result ≡ admitted a seen.new) }
-{
-    if !is_access(a.access) {
-        return true;
+impl LoopAccess {
+    // The number of its region and field, of 16 regions with 8 fields each. Numbers of a plan are below those, and the
+    // remainders change none; they keep the table's bound for every byte.
+    #[tactic(auto, unfolding(crate::specs::Parallel::target_number))]
+    fn target_number(self) -> usize
+        ensures { (result ≡ target_number self) × (result < 128) }
+    {
+        self.region % 16 * 8 + usize::from(self.field % 8)
     }
-    let target = target_number(a);
-    let classes = seen[target] | class_bit(a);
-    seen[target] = classes;
-    is_compatible(classes)
+
+    // Its class, as a bit.
+    #[tactic(auto, using(crate::proofs::Classes::operator_bit), unfolding(crate::specs::Parallel::class, crate::specs::Parallel::class_by, model::specs::Tests::pick))]
+    fn class_bit(self) -> u8
+        ensures { result ≡ 2 ^ class self }
+    {
+        match (self.access, self.centered) {
+            (Access::Nothing, _) => CENTERED_READ,
+            (Access::Reads, true) => CENTERED_READ,
+            (Access::Reads, false) => POINTER_READ,
+            (Access::Writes, true) => CENTERED_CHANGE,
+            (Access::Writes, false) => POINTER_WRITE,
+            (Access::Reduces, true) => CENTERED_CHANGE,
+            (Access::Reduces, false) => POINTER_REDUCTION << (self.operator % 4),
+        }
+    }
+
+    // Enters it among those of its region and field; whether the loop can be parallelizable with it.
+    #[tactic(auto, using(crate::proofs::Classes::not_entered, crate::proofs::Classes::entered_is, crate::proofs::Classes::not_asked, crate::proofs::Classes::admitted_is))]
+    fn enter(self, seen: &mut [u8; 128]) -> bool
+        ensures { (seen.new ≡ entered self seen.old) × (result ≡ admitted self seen.new) }
+    {
+        if !is_access(self.access) {
+            return true;
+        }
+        let target = self.target_number();
+        let classes = seen[target] | self.class_bit();
+        seen[target] = classes;
+        is_compatible(classes)
+    }
 }
 
 // The statements of the loop that statement f opens: up to the next that opens a loop, or to the last.
@@ -129,61 +111,87 @@ fn loop_statements(statements: &[u8], f: usize) -> Range<usize>
     f..end
 }
 
-// Whether the loop that statement f opens is parallelizable, in one pass.
-fn is_parallelizable(statements: &[u8], tables: &StatementTables, f: usize) -> bool
-    requires { Within statements.now f }
-    ensures { (P : Plan) → LoopsKnown P statements.now tables.now → Is (opens P f) → result ≡ parallelizable P f }
-{
-    // The classes of the accesses so far, by region and field.
-    let mut seen = [0; 128];
-    for s in loop_statements(statements, f) {
-        if !enter_access(&mut seen, loop_access(statements, tables, s)) {
-            return false;
+impl StatementLoops<'_> {
+    // The access of statement s.
+    #[tactic(auto, using(crate::proofs::Accesses::access_is))]
+    fn access(&self, s: usize) -> LoopAccess
+        requires { s < length self.now.statements.now / 4 }
+        ensures { (P : Plan) → LoopsKnown P self.now → result ≡ access_at P s }
+    {
+        let statement = statement_at(self.statements, s);
+        // In this order: with the operand looked up first, section 4 takes a fifth longer on a loop of 64 statements.
+        let access = access_of(statement.kind);
+        let field = statement.field();
+        let operand = byte_at(&self.tables.operands, s);
+        LoopAccess {
+            access,
+            region: byte_at(&self.tables.variable_regions, operand),
+            field,
+            centered: entry_or(&self.tables.centered, operand, false),
+            operator: statement.c,
         }
     }
-    true
-}
 
-// The check of statement f: a loop that it opens is parallelizable.
-#[tactic(auto, using(primitives::proofs::OpenTests::tests_open), unfolding(model::specs::Parallel::loop_check, model::specs::Statements::opens, model::specs::Outcomes::require))]
-fn check_loop(statements: &[u8], tables: &StatementTables, f: usize) -> Result<(), Refusal>
-    requires { Within statements.now f }
-    ensures { (P : Plan) → LoopsKnown P statements.now tables.now → result ≡ loop_check P f }
-{
-    if !opens_loop(kind_at(statements, f)) {
-        return Ok(());
+    // Whether the loop that statement f opens is parallelizable, in one pass.
+    fn is_parallelizable(&self, f: usize) -> bool
+        requires { f < length self.now.statements.now / 4 }
+        ensures { (P : Plan) → LoopsKnown P self.now → Is (opens P f) → result ≡ parallelizable P f }
+    {
+        // The classes of the accesses so far, by region and field.
+        let mut seen = [0; 128];
+        for s in loop_statements(self.statements, f) {
+            if !self.access(s).enter(&mut seen) {
+                return false;
+            }
+        }
+        true
     }
-    let parallel = is_parallelizable(statements, tables, f);
-    require(parallel, Refusal::NotParallelizable(f))
-}
 
-// The check of the loops, after section 4.
-#[tactic(auto, using(primitives::proofs::Scanning::scanned))]
-pub fn check_loops(statements: &[u8], tables: &StatementTables) -> Result<(), Refusal>
-    requires { length statements.now / 4 ≤ 64 }
-    ensures { (P : Plan) → LoopsKnown P statements.now tables.now → result ≡ loops_check P }
-{
-    for f in 0..statements.len() / 4 {
-        check_loop(statements, tables, f)?;
+    // The check of statement f: a loop that it opens is parallelizable.
+    #[tactic(auto, using(primitives::proofs::OpenTests::tests_open), unfolding(model::specs::Parallel::loop_check, model::specs::Statements::opens, model::specs::Outcomes::require))]
+    fn check_loop(&self, f: usize) -> Result<(), Refusal>
+        requires { f < length self.now.statements.now / 4 }
+        ensures { (P : Plan) → LoopsKnown P self.now → result ≡ loop_check P f }
+    {
+        if !opens_loop(kind_at(self.statements, f)) {
+            return Ok(());
+        }
+        let parallel = self.is_parallelizable(f);
+        require(parallel, Refusal::NotParallelizable(f))
     }
-    Ok(())
+
+    // The check of the loops, after section 4.
+    #[tactic(auto, using(primitives::proofs::Scanning::scanned))]
+    pub fn check_loops(&self) -> Result<(), Refusal>
+        ensures { (P : Plan) → LoopsKnown P self.now → result ≡ loops_check P }
+    {
+        // By `for` and `?`: `try_for_each` leaves the result open, since the library has no lemma of it over a range.
+        for f in 0..self.statements.len() / 4 {
+            self.check_loop(f)?;
+        }
+        Ok(())
+    }
 }
 
 // Whether statement s is a reduction through a variable that is not centered.
-#[tactic(auto, using(primitives::proofs::OpenTests::tests_open, crate::proofs::Accesses::operand_centered, crate::proofs::Parallelizable::own_reduction), unfolding(model::specs::Parallel::reduces, model::specs::Parallel::uncentered))]
-fn is_pointer_reduction(statements: &[u8], tables: &StatementTables, s: usize) -> bool
+fn is_pointer_reduction(statements: &[u8], operands: &[u8], centered: &[bool], s: usize) -> bool
     requires { s < 64 }
-    ensures { (P : Plan) → PointersKnown P statements.now tables.now → s < statement_count P → result ≡ pointer_reduction P (loop P s) s }
+    ensures { (P : Plan) → PointersKnown P statements.now operands.now centered.now → s < statement_count P → result ≡ pointer_reduction P (loop P s) s }
 {
     let access = access_of(kind_at(statements, s));
-    let operand = byte_at(&tables.operands, s);
-    is_reduce(access) & !entry_or(&tables.centered, operand, false)
+    let operand = byte_at(operands, s);
+    is_reduce(access) & !entry_or(centered, operand, false)
 }
 
 // Whether the loop that statement f opens reduces through a pointer.
-pub fn reduces_through_pointer(statements: &[u8], tables: &StatementTables, f: usize) -> bool
+pub fn reduces_through_pointer(
+    statements: &[u8],
+    operands: &[u8],
+    centered: &[bool],
+    f: usize,
+) -> bool
     requires { Within statements.now f }
-    ensures { (P : Plan) → PointersKnown P statements.now tables.now → Is (opens P f) → result ≡ reduces_through_pointer P f }
+    ensures { (P : Plan) → PointersKnown P statements.now operands.now centered.now → Is (opens P f) → result ≡ reduces_through_pointer P f }
 {
-    loop_statements(statements, f).any(|s| is_pointer_reduction(statements, tables, s))
+    loop_statements(statements, f).any(|s| is_pointer_reduction(statements, operands, centered, s))
 }

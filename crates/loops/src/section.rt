@@ -4,15 +4,15 @@ ghost use Rattle.std.specs.Prelude.{◌/◌, ◌≤◌, length};
 ghost use Rattle.model.specs.Layout.{Plan};
 ghost use Rattle.loops.specs.Section.{StatementSources, StatementsChecked};
 
-use crate::parallel::check_loops;
-use crate::statements::{check_statement, entry_of, statement_at};
-use crate::tables::StatementTables;
+use crate::statements::statement_at;
+use crate::tables::{StatementLoops, StatementTables};
 use crate::variables::Variables;
 use model::Refusal;
 use primitives::bytes::byte_at;
 
 // The statements, then the loops; after a pass, the tables. Each statement is entered into them before it is checked: a FOR
 // works on the variable that it defines.
+#[tactic(auto, using(crate::proofs::StatementLaws::pass_start))]
 pub fn check_statements_and_loops(
     regions: &[u8],
     maps: &[u8],
@@ -32,12 +32,16 @@ pub fn check_statements_and_loops(
     };
     for s in 0..statements.len() / 4 {
         let statement = statement_at(statements, s);
-        let entry = entry_of(maps, statement, s, &variables, &tables);
+        let entry = statement.entry(maps, s, &variables, &tables);
         tables.enter(s, entry);
         let region = byte_at(&tables.variable_regions, usize::from(entry.operand));
-        check_statement(regions, maps, statement, s, variables.count, region)?;
+        statement.check(regions, maps, s, variables.count, region)?;
         variables.enter(statement.kind, s as u8);
     }
-    check_loops(statements, &tables)?;
+    let loops = StatementLoops {
+        statements,
+        tables: &tables,
+    };
+    loops.check_loops()?;
     Ok(tables)
 }

@@ -1,6 +1,8 @@
 // A statement of section 4: its record, what it adds to the tables, and its check.
 // Regions and maps are two parameters: whoever calls holds them as two sections, and a struct of the two would be made for this
 // file alone.
+// `s < 64` is a clause: s is a place in the section that the reader is handed, and no struct holds the section.
+// `StatementAt` is of a record and of every plan that has it as statement s: no field of the record could hold that.
 // Numbers are narrowed by `as`: the bound is proved, and `try_from` would have a case that never comes.
 ghost use Rattle.std.specs.Prelude.{◌≡◌, ℕ, ◌/◌, ◌<◌, length};
 ghost use Rattle.model.specs.Layout.{Plan};
@@ -57,152 +59,155 @@ pub fn statement_at(statements: &[u8], s: usize) -> Statement
     }
 }
 
-// The number of the variable that a statement works on.
-#[tactic(auto, unfolding(model::specs::Statements::operand, model::specs::Statements::operand_by))]
-fn operand_of(statement: Statement) -> u8
-    ensures { (P : Plan) (s : ℕ) → StatementAt P s statement → result ≡ operand P s }
-{
-    match statement.kind {
-        StatementKind::For => 0,
-        StatementKind::Load => statement.b,
-        StatementKind::Call => statement.b,
-        StatementKind::Copy => statement.a,
-        StatementKind::Read => statement.a,
-        StatementKind::Write => statement.a,
-        StatementKind::Reduce => statement.a,
-        StatementKind::Unknown => 0,
+// One case for each kind, as in the definitions (project's form); 0 where the kind names no variable, field or region.
+impl Statement {
+    // The number of the variable that it works on.
+    #[tactic(auto, unfolding(model::specs::Statements::operand, model::specs::Statements::operand_by))]
+    fn operand(self) -> u8
+        ensures { (P : Plan) (s : ℕ) → StatementAt P s self → result ≡ operand P s }
+    {
+        match self.kind {
+            StatementKind::For => 0,
+            StatementKind::Load => self.b,
+            StatementKind::Call => self.b,
+            StatementKind::Copy => self.a,
+            StatementKind::Read => self.a,
+            StatementKind::Write => self.a,
+            StatementKind::Reduce => self.a,
+            StatementKind::Unknown => 0,
+        }
     }
-}
 
-// The field that a statement names, if it is an access: LOAD names it last, the others before that.
-#[tactic(auto, unfolding(model::specs::Statements::access_field, model::specs::Statements::field_by))]
-pub fn field_of(statement: Statement) -> u8
-    ensures { (P : Plan) (s : ℕ) → StatementAt P s statement → result ≡ access_field P s }
-{
-    match statement.kind {
-        StatementKind::For => 0,
-        StatementKind::Load => statement.c,
-        StatementKind::Call => 0,
-        StatementKind::Copy => 0,
-        StatementKind::Read => statement.b,
-        StatementKind::Write => statement.b,
-        StatementKind::Reduce => statement.b,
-        StatementKind::Unknown => 0,
+    // The field that it names, if it is an access: LOAD names it last, the others before that.
+    #[tactic(auto, unfolding(model::specs::Statements::access_field, model::specs::Statements::field_by))]
+    pub fn field(self) -> u8
+        ensures { (P : Plan) (s : ℕ) → StatementAt P s self → result ≡ access_field P s }
+    {
+        match self.kind {
+            StatementKind::For => 0,
+            StatementKind::Load => self.c,
+            StatementKind::Call => 0,
+            StatementKind::Copy => 0,
+            StatementKind::Read => self.b,
+            StatementKind::Write => self.b,
+            StatementKind::Reduce => self.b,
+            StatementKind::Unknown => 0,
+        }
     }
-}
 
-// The region of the variable that a statement defines, given that of the variable it copies.
-#[tactic(auto, unfolding(model::specs::Statements::region_by))]
-fn variable_region(maps: &[u8], statement: Statement, copied: u8) -> u8
-    ensures { (P : Plan) (s : ℕ) → P.maps ≡ maps.now → StatementAt P s statement → result ≡ region_by P (kind P s) s (λ d. copied) }
-{
-    let target = map_target(maps, usize::from(statement.a)) as u8;
-    match statement.kind {
-        StatementKind::For => statement.a,
-        StatementKind::Load => target,
-        StatementKind::Call => target,
-        StatementKind::Copy => copied,
-        StatementKind::Read => 0,
-        StatementKind::Write => 0,
-        StatementKind::Reduce => 0,
-        StatementKind::Unknown => 0,
+    // The region of the variable that it defines, given that of the variable it copies.
+    #[tactic(auto, unfolding(model::specs::Statements::region_by))]
+    fn variable_region(self, maps: &[u8], copied: u8) -> u8
+        ensures { (P : Plan) (s : ℕ) → P.maps ≡ maps.now → StatementAt P s self → result ≡ region_by P (kind P s) s (λ d. copied) }
+    {
+        let target = map_target(maps, usize::from(self.a)) as u8;
+        match self.kind {
+            StatementKind::For => self.a,
+            StatementKind::Load => target,
+            StatementKind::Call => target,
+            StatementKind::Copy => copied,
+            StatementKind::Read => 0,
+            StatementKind::Write => 0,
+            StatementKind::Reduce => 0,
+            StatementKind::Unknown => 0,
+        }
     }
-}
 
-// Whether the variable that a statement defines is centered, given whether the variable it copies is.
-#[tactic(auto, unfolding(model::specs::Statements::centered_by))]
-fn is_centered(kind: StatementKind, copied: bool) -> bool
-    ensures { (P : Plan) (s : ℕ) → result ≡ centered_by P kind s (λ d. copied) }
-{
-    match kind {
-        StatementKind::For => true,
-        StatementKind::Load => false,
-        StatementKind::Call => false,
-        StatementKind::Copy => copied,
-        StatementKind::Read => false,
-        StatementKind::Write => false,
-        StatementKind::Reduce => false,
-        StatementKind::Unknown => false,
+    // Whether the variable that it defines is centered, given whether the variable it copies is.
+    #[tactic(auto, unfolding(model::specs::Statements::centered_by))]
+    fn defines_centered(self, copied: bool) -> bool
+        ensures { (P : Plan) (s : ℕ) → StatementAt P s self → result ≡ centered_by P (kind P s) s (λ d. copied) }
+    {
+        match self.kind {
+            StatementKind::For => true,
+            StatementKind::Load => false,
+            StatementKind::Call => false,
+            StatementKind::Copy => copied,
+            StatementKind::Read => false,
+            StatementKind::Write => false,
+            StatementKind::Reduce => false,
+            StatementKind::Unknown => false,
+        }
     }
-}
 
-// What the tables take of statement s, from what they hold of the statements before it.
-pub fn entry_of(
-    maps: &[u8],
-    statement: Statement,
-    s: usize,
-    variables: &Variables,
-    tables: &StatementTables,
-) -> StatementEntry
-    requires { s < 64 }
-    ensures { (P : Plan) → P.maps ≡ maps.now → StatementAt P s statement → EarlierStatements P s variables.now tables.now → EntryAt P s result }
-{
-    let operand = variables.definition(operand_of(statement));
-    let followed = usize::from(operand);
-    let copied_region = earlier(&tables.variable_regions, s, followed).unwrap_or(0);
-    let copied_centered = earlier(&tables.centered, s, followed).unwrap_or(false);
-    StatementEntry {
-        operand,
-        region: variable_region(maps, statement, copied_region),
-        centered: is_centered(statement.kind, copied_centered),
+    // What the tables take of it, as statement s, from what they hold of the statements before it.
+    pub(crate) fn entry(
+        self,
+        maps: &[u8],
+        s: usize,
+        variables: &Variables,
+        tables: &StatementTables,
+    ) -> StatementEntry
+        requires { s < 64 }
+        ensures { (P : Plan) → P.maps ≡ maps.now → StatementAt P s self → EarlierStatements P s variables.now tables.now → EntryAt P s result }
+    {
+        let operand = variables.definition(self.operand());
+        let followed = usize::from(operand);
+        let copied_region = earlier(&tables.variable_regions, s, followed).unwrap_or(0);
+        let copied_centered = earlier(&tables.centered, s, followed).unwrap_or(false);
+        StatementEntry {
+            operand,
+            region: self.variable_region(maps, copied_region),
+            centered: self.defines_centered(copied_centered),
+        }
     }
-}
 
-// Whether a statement is of a known kind with all its numbers in range and its unused bytes 0.
-#[tactic(auto, using(primitives::proofs::OpenTests::tests_open), unfolding(model::specs::Statements::statement_formed, model::specs::Statements::statement_formed_by))]
-fn is_formed(regions: &[u8], maps: &[u8], statement: Statement, count: usize, region: usize) -> bool
-    ensures { (P : Plan) (s : ℕ) → P.regions ≡ regions.now → P.maps ≡ maps.now → StatementAt P s statement → StatementContext P s count region → result ≡ statement_formed P s }
-{
-    let a = usize::from(statement.a);
-    let b = usize::from(statement.b);
-    let c = usize::from(statement.c);
-    let fields = byte_at(regions, region);
-    match statement.kind {
-        StatementKind::For => a < regions.len() && b == 0 && c == 0,
-        StatementKind::Load => a < maps.len() / 3 && b < count && count < 16 && c < fields,
-        StatementKind::Call => a < maps.len() / 3 && b < count && count < 16 && c == 0,
-        StatementKind::Copy => a < count && count < 16 && b == 0 && c == 0,
-        StatementKind::Read => a < count && b < fields && c == 0,
-        StatementKind::Write => a < count && b < fields && c == 0,
-        StatementKind::Reduce => a < count && b < fields && c < 4,
-        StatementKind::Unknown => false,
+    // Whether it is of a known kind with all its numbers in range and its unused bytes 0.
+    #[tactic(auto, using(primitives::proofs::OpenTests::tests_open), unfolding(model::specs::Statements::statement_formed, model::specs::Statements::statement_formed_by))]
+    fn is_formed(self, regions: &[u8], maps: &[u8], count: usize, region: usize) -> bool
+        ensures { (P : Plan) (s : ℕ) → P.regions ≡ regions.now → P.maps ≡ maps.now → StatementAt P s self → StatementContext P s count region → result ≡ statement_formed P s }
+    {
+        let a = usize::from(self.a);
+        let b = usize::from(self.b);
+        let c = usize::from(self.c);
+        let fields = byte_at(regions, region);
+        match self.kind {
+            StatementKind::For => a < regions.len() && b == 0 && c == 0,
+            StatementKind::Load => a < maps.len() / 3 && b < count && count < 16 && c < fields,
+            StatementKind::Call => a < maps.len() / 3 && b < count && count < 16 && c == 0,
+            StatementKind::Copy => a < count && count < 16 && b == 0 && c == 0,
+            StatementKind::Read => a < count && b < fields && c == 0,
+            StatementKind::Write => a < count && b < fields && c == 0,
+            StatementKind::Reduce => a < count && b < fields && c < 4,
+            StatementKind::Unknown => false,
+        }
     }
-}
 
-// Whether the map of a LOAD or CALL starts from the region of the variable that it follows.
-#[tactic(auto, using(primitives::proofs::OpenTests::tests_open), unfolding(model::specs::Statements::statement_agrees, model::specs::Statements::statement_agrees_by))]
-fn agrees_with_map(maps: &[u8], statement: Statement, region: usize) -> bool
-    ensures { (P : Plan) (s : ℕ) → P.maps ≡ maps.now → StatementAt P s statement → region ≡ operand_region P s → result ≡ statement_agrees P s }
-{
-    let source = map_source(maps, usize::from(statement.a));
-    match statement.kind {
-        StatementKind::For => true,
-        StatementKind::Load => region == source,
-        StatementKind::Call => region == source,
-        StatementKind::Copy => true,
-        StatementKind::Read => true,
-        StatementKind::Write => true,
-        StatementKind::Reduce => true,
-        StatementKind::Unknown => true,
+    // Whether the map of a LOAD or CALL starts from the region of the variable that it follows.
+    #[tactic(auto, using(primitives::proofs::OpenTests::tests_open), unfolding(model::specs::Statements::statement_agrees, model::specs::Statements::statement_agrees_by))]
+    fn agrees_with_map(self, maps: &[u8], region: usize) -> bool
+        ensures { (P : Plan) (s : ℕ) → P.maps ≡ maps.now → StatementAt P s self → region ≡ operand_region P s → result ≡ statement_agrees P s }
+    {
+        let source = map_source(maps, usize::from(self.a));
+        match self.kind {
+            StatementKind::For => true,
+            StatementKind::Load => region == source,
+            StatementKind::Call => region == source,
+            StatementKind::Copy => true,
+            StatementKind::Read => true,
+            StatementKind::Write => true,
+            StatementKind::Reduce => true,
+            StatementKind::Unknown => true,
+        }
     }
-}
 
-// The check of statement s, given the number of its loop's variables and the region of the one that it works on.
-#[tactic(auto, using(primitives::proofs::Stages::stages), unfolding(model::specs::Statements::statement_check))]
-pub fn check_statement(
-    regions: &[u8],
-    maps: &[u8],
-    statement: Statement,
-    s: usize,
-    count: usize,
-    region: usize,
-) -> Result<(), Refusal>
-    requires { s < 64 }
-    ensures { (P : Plan) → P.regions ≡ regions.now → P.maps ≡ maps.now → StatementAt P s statement → StatementContext P s count region → result ≡ statement_check P s }
-{
-    let place = 4 * 256 + s;
-    let formed = is_formed(regions, maps, statement, count, region);
-    let agrees = agrees_with_map(maps, statement, region);
-    require(formed, Refusal::InvalidRecord(place))?;
-    require(agrees, Refusal::RegionMismatch(place))
+    // Its check as statement s, given the number of its loop's variables and the region of the one that it works on.
+    #[tactic(auto, using(primitives::proofs::Stages::stages), unfolding(model::specs::Statements::statement_check))]
+    pub fn check(
+        self,
+        regions: &[u8],
+        maps: &[u8],
+        s: usize,
+        count: usize,
+        region: usize,
+    ) -> Result<(), Refusal>
+        requires { s < 64 }
+        ensures { (P : Plan) → P.regions ≡ regions.now → P.maps ≡ maps.now → StatementAt P s self → StatementContext P s count region → result ≡ statement_check P s }
+    {
+        let place = 4 * 256 + s;
+        let formed = self.is_formed(regions, maps, count, region);
+        let agrees = self.agrees_with_map(maps, region);
+        require(formed, Refusal::InvalidRecord(place))?;
+        require(agrees, Refusal::RegionMismatch(place))
+    }
 }

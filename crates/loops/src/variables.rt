@@ -6,7 +6,8 @@ use crate::kinds::{defines_variable, opens_loop};
 use model::StatementKind;
 use primitives::lookup::entry_or;
 
-// How many there are, and the statement that defines each: sixteen at most, in memory of that size.
+// How many there are, and the statement that defines each: sixteen at most, in memory of that size. An array and no `ArrayVec`:
+// what an earlier loop defined is read past `count` too, as the definition has it, before its statement is refused.
 #[derive(Clone, Copy)]
 pub struct Variables {
     pub count: usize,
@@ -14,7 +15,7 @@ pub struct Variables {
 }
 
 impl Variables {
-    // The statement that defines variable v; 0 where there is no such variable.
+    // The statement that defined variable v last, in this loop or an earlier one; 0 where none did.
     pub fn definition(&self, v: u8) -> u8
         ensures { result ≡ get_or self.now.definitions v 0 }
     {

@@ -1,4 +1,5 @@
-// The entry points for C and Rust, which mavisglen_c exports: an answer comes as one number.
+// The entry points for C and Rust, which mavisglen_c exports: an answer comes as one number, and what is asked as numbers, each a
+// parameter (C interface).
 // By `as`: there is no `From` between `usize` and `u64`, and `try_from` would have a case that never comes.
 #![tactic(auto)]
 
@@ -18,6 +19,7 @@ pub fn mavisglen_check(plan: &[u8]) -> u64
 }
 
 // Evaluates a plan over a data set into the lent words.
+#[tactic(auto, using(crate::proofs::Exported::exported_evaluation))]
 pub fn mavisglen_evaluate(plan: &[u8], data: &[u8], words: &mut [u64]) -> u64
     ensures { ExportedEvaluation plan.now «data».now words.old words.new result }
 {
@@ -25,6 +27,7 @@ pub fn mavisglen_evaluate(plan: &[u8], data: &[u8], words: &mut [u64]) -> u64
 }
 
 // Explains why a piece of a node holds an element, by a chain of pairs in two lent slices.
+#[tactic(auto, using(crate::proofs::Exported::exported_explanation))]
 pub fn mavisglen_explain(
     plan: &[u8],
     data: &[u8],

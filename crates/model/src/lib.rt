@@ -4,7 +4,8 @@
 mod kinds;
 mod reports;
 
-// Why a plan or a data set is refused, and at which place. Behind each: number and word of the format paper.
+// Why a plan or a data set is refused, and at which place. Behind each: number and word of the format paper. The places of
+// the last two are numbers of the format and no enums: callers in C read them.
 #[derive(Clone, Copy, Debug, PartialEq, Eq)]
 pub enum Refusal {
     Truncated(usize), // 1 Short: the section, 0 for no bytes
@@ -43,6 +44,7 @@ pub struct Charge {
 }
 
 // What an answer tells: number and place of a refusal, 0 and 0 on acceptance; the counts of an acceptance, 0 on refusal.
+// Numbers, here and in the two below, and no `Option`: C reads them.
 #[derive(Clone, Copy, Debug, PartialEq, Eq)]
 pub struct Report {
     pub number: usize,
@@ -93,7 +95,8 @@ pub struct Transfer {
     pub price: usize,
 }
 
-// The kinds of a loop's statements, in the order of their bytes.
+// The kinds of a loop's statements, in the order of their bytes. The last is a kind of its own and no missing one: the
+// definitions have a case for it, as the other enums here have for theirs.
 #[derive(Clone, Copy, Debug, PartialEq, Eq)]
 pub enum StatementKind {
     For,

@@ -6,3 +6,4 @@ pub mod NeedTables
 pub mod NeedsMet
 pub mod Stages
 pub mod Verdict
+pub mod Counted

@@ -11,7 +11,7 @@ use Rattle.model.specs.Tests.{◌<?◌}
 use Rattle.std.specs.Prelude.{Ok, Err}
 use Rattle.model.specs.Layout.{Plan, statement_count, step_count}
 use Rattle.model.specs.Needs.{symbol}
-use Rattle.model.specs.Outcomes.{scan}
+use Rattle.model.specs.declared.Refusal.{Refusal}
 use Rattle.model.specs.declared.Refusal.TheVariants.{UnmetNeed}
 use Rattle.model.proofs.Tests.{latest}
 use Rattle.primitives.proofs.Scanning.{Scanning, scanning_start, scan_passes, scan_refuses, scan_ends}
@@ -39,10 +39,10 @@ module _ (P : Plan) (needs : List Need) (conclusions : List ℕ) where
     unfolding settled
     settling_next is inside met = scan_passes past.scanning inside (rw is (require_true _ met))
 
-    settling_refused : {t : Need} → get_or needs i Nothing ≡ t → i < statement_count P * 2 → is_met conclusions (step_count P) t ≡ false
-        → scan (settled P needs conclusions) 0 (statement_count P * 2) ≡ Err (UnmetNeed (symbol P (i / 2)))
+    settling_refused : {t : Need} {r : Refusal} → r ≡ UnmetNeed (symbol P (i / 2)) → get_or needs i Nothing ≡ t → i < statement_count P * 2
+        → is_met conclusions (step_count P) t ≡ false → NeedsSettled P needs conclusions (Err r)
     unfolding settled
-    settling_refused is inside unmet = scan_refuses past.scanning inside (rw is (require_false _ unmet))
+    settling_refused at is inside unmet = rw at (scan_refuses past.scanning inside (rw is (require_false _ unmet)))
 
     pub settling_unasked : get_or needs i Nothing ≡ Nothing → i < statement_count P * 2 → SettledBefore concluding (i + 1)
     unfolding is_met
@@ -53,10 +53,10 @@ module _ (P : Plan) (needs : List Need) (conclusions : List ℕ) where
           first_steps = λ k key lt asks. elim (latest k i (omega arith)) [ inl at ↦ (let e = rw at at asks in cc) | inr l ↦ past.first_steps k key l asks ];
         }
 
-    pub settling_unlisted : get_or needs i Nothing ≡ Unlisted → i < statement_count P * 2
-        → scan (settled P needs conclusions) 0 (statement_count P * 2) ≡ Err (UnmetNeed (symbol P (i / 2)))
+    pub settling_unlisted : {r : Refusal} → r ≡ UnmetNeed (symbol P (i / 2)) → get_or needs i Nothing ≡ Unlisted → i < statement_count P * 2
+        → NeedsSettled P needs conclusions (Err r)
     unfolding is_met
-    settling_unlisted is inside = settling_refused is inside refl
+    settling_unlisted at is inside = settling_refused at is inside refl
 
     module _ {key : ℕ} (asks : get_or needs i Nothing ≡ Conclusion key) (inside : i < statement_count P * 2) where
       pub settling_met : {t : ℕ} → t ≡ concluding_step conclusions (step_count P) key → t < step_count P → i < 128
@@ -70,10 +70,12 @@ module _ (P : Plan) (needs : List Need) (conclusions : List ℕ) where
                 concluding i t (omega (arith, past.room)) (λ k lt. past.first_steps k other lt) (λ e. let same : key ≡ other = cc in rw (← same) first-is) k;
           }
 
-      pub settling_unmet : step_count P ≤ concluding_step conclusions (step_count P) key
-          → scan (settled P needs conclusions) 0 (statement_count P * 2) ≡ Err (UnmetNeed (symbol P (i / 2)))
+      pub settling_unmet : {r : Refusal} → r ≡ UnmetNeed (symbol P (i / 2)) → step_count P ≤ concluding_step conclusions (step_count P) key
+          → NeedsSettled P needs conclusions (Err r)
       unfolding is_met ◌<?◌
-      settling_unmet none = settling_refused asks inside (le-ltb _ _ none)
+      settling_unmet at none = settling_refused at asks inside (le-ltb _ _ none)
 
     pub settling_ends : statement_count P * 2 ≤ i → NeedsSettled P needs conclusions (Ok concluding)
     settling_ends end = (scan_ends past.scanning end, λ k key lt. past.first_steps k key (omega arith))
+
+pub ruleset settling = (settling_starts, settling_unasked, settling_unlisted, settling_met, settling_unmet, settling_ends)

@@ -1,4 +1,5 @@
 // Symbols, and section 6: a node for each, of its region.
+// Functions over the tables, not methods: a method of the tables is what sections 6 and 7 both read off them.
 ghost use Rattle.std.specs.Prelude.{◌≡◌, ◌+◌, ◌<◌, ◌≤◌};
 ghost use Rattle.model.specs.Layout.{statement_count};
 ghost use Rattle.model.specs.Needs as Needs;
@@ -7,11 +8,9 @@ ghost use Rattle.model.specs.Verdict.{assignments_check};
 ghost use Rattle.plan.specs.Plans.{plan_at};
 ghost use Rattle.plan.specs.Assignments.{SymbolAt, counted_assignments_check};
 
-use crate::STATEMENT_BYTES;
 use crate::tables::PlanTables;
 use loops::kinds::{access_of, is_access, opens_loop};
 use model::Refusal;
-use primitives::bytes::byte_at;
 use primitives::outcomes::require;
 
 // Whether statement s has a symbol: a FOR, or an access.
@@ -24,7 +23,8 @@ fn has_symbol(tables: PlanTables<'_>, s: usize) -> bool
     opens_loop(kind) | is_access(access_of(kind))
 }
 
-// The number of the next symbol after statement s, given that of the next before.
+// The number of the next symbol after statement s, given that of the next before. A pass over the statements carries the number
+// from turn to turn: symbol_of counts all before its statement.
 #[tactic(auto, using(crate::proofs::Symbols::symbols_next))]
 pub fn next_symbol(tables: PlanTables<'_>, s: usize, symbol: usize) -> usize
     requires { SymbolAt (plan_at tables) symbol s }
@@ -43,11 +43,7 @@ pub fn symbol_of(tables: PlanTables<'_>, s: usize) -> usize
     requires { s ≤ statement_count (plan_at tables) }
     ensures { result ≡ Needs.symbol (plan_at tables.entry) s }
 {
-    let mut symbol = 0;
-    for t in 0..s {
-        symbol = next_symbol(tables, t, symbol);
-    }
-    symbol
+    (0..s).filter(|t| has_symbol(tables, *t)).count()
 }
 
 // The region of the symbol of statement s: the loop's, or that of the access's variable.
@@ -57,7 +53,7 @@ fn symbol_region(tables: PlanTables<'_>, s: usize) -> usize
     ensures { result ≡ symbol_region (plan_at tables.entry) s }
 {
     if opens_loop(tables.kind(s)) {
-        byte_at(tables.sections.statements, s * STATEMENT_BYTES + 1)
+        tables.first_number(s)
     } else {
         tables.operand_region(s)
     }

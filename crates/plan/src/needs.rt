@@ -1,4 +1,5 @@
-// Needs: what the loops ask the steps to conclude, and the search for the steps that do.
+// Needs: what the loops ask the steps to conclude, and the search for the steps that do. Functions over the tables, as those of
+// section 6.
 // Numbers are narrowed by `as`: the bound is proved, and `try_from` would have a case that never comes.
 ghost use Rattle.std.specs.Prelude.{◌≡◌, ◌*◌, ◌/◌, ◌≤◌, ◌<◌, ◌==◌, position};
 ghost use Rattle.model.specs.declared.Refusal.TheVariants.{UnmetNeed};
@@ -11,10 +12,9 @@ ghost use Rattle.expressions.specs.Steps.{ConclusionKeys};
 ghost use Rattle.plan.specs.Plans.{plan_at};
 ghost use Rattle.plan.specs.Needs.{BoundSought, bound_at, first_need, second_need, NeedsListed, NeedsSettled, NeedsChecked};
 
-use crate::STATEMENT_BYTES;
 use crate::assignments::{next_symbol, symbol_of};
 use crate::tables::PlanTables;
-use expressions::nodes::node_key;
+use expressions::nodes::key_of;
 use expressions::steps::{complete_key, disjoint_key, subset_key};
 use loops::kinds::{access_of, is_access, opens_loop};
 use loops::parallel::reduces_through_pointer;
@@ -22,7 +22,8 @@ use model::{NodeKind, Refusal, StatementKind};
 use primitives::bytes::byte_at;
 use primitives::lookup::entry_or;
 
-// What the steps must conclude for a statement's symbol.
+// What the steps must conclude for a statement's symbol. Three cases, not an Option of an Option: that would not say which None
+// is always met and which never.
 #[derive(Clone, Copy)]
 pub enum Need {
     Nothing,
@@ -39,14 +40,14 @@ fn position_of(keys: &[u32], wanted: u32) -> Option<usize>
     keys.iter().position(|key| *key == wanted)
 }
 
-// The image of a node under a map. The number of nodes stands for one that is not listed, as in the definition: an Option would be no
-// plainer, since a bound that is not listed is looked for as an operand too.
+// The image of a node under a map. The number of nodes stands for one that is not listed, as in the definition: an Option would
+// be no plainer, since a bound that is not listed is looked for as an operand too.
 fn image_node(tables: PlanTables<'_>, node: usize, map: usize) -> usize
     requires { (node < 256) × (map < 256) }
     ensures { (result ≡ image_node (plan_at tables.entry) node map) × (result ≤ 48) }
 {
     let nodes = tables.node_count();
-    let wanted = node_key(NodeKind::Image, node, map);
+    let wanted = key_of(NodeKind::Image, node, map);
     position_of(&tables.nodes.keys[..nodes], wanted).unwrap_or(nodes)
 }
 
@@ -59,8 +60,7 @@ fn variable_bound(tables: PlanTables<'_>, s: usize, node: usize, followed: usize
     match tables.kind(s) {
         StatementKind::For => node,
         StatementKind::Load | StatementKind::Call => {
-            let map = byte_at(tables.sections.statements, s * STATEMENT_BYTES + 1);
-            image_node(tables, followed, map)
+            image_node(tables, followed, tables.first_number(s))
         }
         StatementKind::Copy => followed,
         StatementKind::Read
@@ -109,10 +109,16 @@ fn needs_disjoint(tables: PlanTables<'_>, s: usize) -> bool
     ensures { result ≡ (opens (plan_at tables.entry) s and reduces_through_pointer (plan_at tables.entry) s) }
 {
     opens_loop(tables.kind(s))
-        && reduces_through_pointer(tables.sections.statements, tables.statements, s)
+        && reduces_through_pointer(
+            tables.sections.statements,
+            &tables.statements.operands,
+            &tables.statements.centered,
+            s,
+        )
 }
 
-// Lists the needs of the statements in order, two of each: needs 2s and 2s + 1 are those of statement s.
+// Lists the needs of the statements in order, two of each: needs 2s and 2s + 1 are those of statement s. Arrays here and below:
+// how many places count is told by the plan's statements and steps, and an ArrayVec's length would be proved to be that.
 fn list_needs(tables: PlanTables<'_>, needs: &mut [Need; 128])
     ensures { NeedsListed (plan_at tables.entry) (statement_count (plan_at tables.entry)) needs.new }
 {
@@ -140,7 +146,7 @@ fn unmet_need(tables: PlanTables<'_>, i: usize) -> Refusal
 }
 
 // Settles the needs in order: the steps are searched for each, and the search is left at the first that concludes it.
-#[tactic(auto, using(primitives::proofs::Searching::searched, primitives::proofs::OpenTests::tests_open))]
+#[tactic(auto, using(primitives::proofs::Searching::searched, primitives::proofs::OpenTests::tests_open, crate::proofs::Settling::settling))]
 fn settle(
     tables: PlanTables<'_>,
     needs: &[Need; 128],
@@ -175,6 +181,7 @@ fn settle(
 
 // The check of the needs: the first that no step concludes is refused, at its symbol. After a pass, the first step that concludes each,
 // at the need's place.
+#[tactic(auto, using(crate::proofs::NeedsMet::needs_checked))]
 pub fn check_needs(tables: PlanTables<'_>, conclusions: &[u32; 128]) -> Result<[u8; 128], Refusal>
     ensures { ConclusionKeys (plan_at tables.entry) (step_count (plan_at tables.entry)) conclusions.now → NeedsChecked (plan_at tables.entry) result }
 {

@@ -8,6 +8,7 @@ ghost use Rattle.layout.specs.Sections.{plan_in};
 
 use layout::sections::PlanSections;
 use model::Acceptance;
+use primitives::bytes::byte_at;
 
 // What an acceptance carries, the plan's sections, and the region of each node.
 #[derive(Clone, Copy)]
@@ -18,4 +19,18 @@ pub struct Reading<'a> {
     pub ghost counted: { acceptance ≡ accepted (plan_in sections) },
     pub ghost facts: { Facts (plan_in sections) },
     pub ghost regions_known: { (j : ℕ) → j < node_count (plan_in sections) → get_or node_regions j 0 ≡ node_region (plan_in sections) j },
+}
+
+impl Reading<'_> {
+    ghost use Rattle.std.specs.Prelude.{◌≡◌, ◌<◌};
+    ghost use Rattle.model.specs.Nodes.{node_region};
+    ghost use Rattle.layout.specs.Sections.{plan_in};
+
+    // The region of node j of those that are listed.
+    pub fn node_region(&self, j: usize) -> usize
+        requires { j < self.now.acceptance.nodes }
+        ensures { result ≡ node_region (plan_in self.now.sections) j }
+    {
+        byte_at(&self.node_regions, j)
+    }
 }

@@ -1,4 +1,5 @@
-// The records of a plan's sections in the paper's order: the first refusal met is given.
+// The records of a plan's sections in the paper's order: the first refusal met is given. A section's reader is handed the
+// sections that its records name (project's form).
 ghost use Rattle.layout.specs.Sections.{plan_in};
 ghost use Rattle.plan.specs.Records.{RecordsChecked};
 
@@ -33,6 +34,7 @@ pub fn check_records(sections: &PlanSections<'_>) -> Result<[u8; 48], Refusal>
         nodes: &nodes,
     };
     check_assignments(tables)?;
+    // An array, which the reader of section 7 fills: how many places count is the number of steps.
     let mut conclusions = [0u32; 128];
     check_steps(
         maps,

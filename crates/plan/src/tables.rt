@@ -1,4 +1,6 @@
 // What the checks of sections 6 and 7 take from those of sections 4 and 5.
+// What is asked of a statement or a node has a clause that it is there: its number is a place in a section, and the struct
+// holds the section.
 ghost use Rattle.layout.specs.Sections.{plan_in};
 ghost use Rattle.plan.specs.Tables.{TablesKnown};
 
@@ -21,7 +23,7 @@ pub struct PlanTables<'a> {
 
 impl PlanTables<'_> {
     ghost use Rattle.std.specs.Prelude.{◌≡◌, ◌<◌, ◌≤◌};
-    ghost use Rattle.model.specs.Layout.{statement_count, node_count, step_count, assigned};
+    ghost use Rattle.model.specs.Layout.{statement_count, statement_a, node_count, step_count, assigned};
     ghost use Rattle.model.specs.Statements.{kind, operand_definition, operand_region};
     ghost use Rattle.model.specs.Nodes.{node_region};
     ghost use Rattle.plan.specs.Plans.{plan_at};
@@ -53,6 +55,14 @@ impl PlanTables<'_> {
         ensures { result ≡ kind (plan_at self.now) s }
     {
         kind_at(self.sections.statements, s)
+    }
+
+    // The first number of statement s: the region of a FOR, the map of a LOAD or CALL.
+    pub fn first_number(&self, s: usize) -> usize
+        requires { s < statement_count (plan_at self.now) }
+        ensures { (result ≡ statement_a (plan_at self.now) s) × (result < 256) }
+    {
+        byte_at(self.sections.statements, s * STATEMENT_BYTES + 1)
     }
 
     // The statement that defines the variable that statement s works on.

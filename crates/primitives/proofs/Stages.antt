@@ -1,20 +1,11 @@
 -- Checks in a row: while every stage passed, what is left decides; the first refusal is that of the whole. Assumes nothing.
-use mathlib.Core.Path.{◌≡◌, sym, ap, ◌∙◌}
+use mathlib.Core.Path.{◌≡◌, ap, ◌∙◌}
 use Rattle.std.specs.Prelude.{Result, Ok, Err}
 use Rattle.std.specs.Result.{IsErrAnd}
 use Rattle.std.proofs.lemmas.Result.{err_from_is_err_and}
 use mathlib.Core.Bool.{Bool, true, false}
 use Rattle.model.specs.Outcomes.{require, ◌then◌, Outcome}
 use Rattle.model.specs.declared.Refusal.{Refusal}
-
-module _ (b : Outcome) {whole a o : Outcome} (decides : whole ≡ a then b) (checked : o ≡ a) where
-  pub stage_passed : o ≡ Ok tt → whole ≡ b
-  unfolding ◌then◌
-  stage_passed pass = decides ∙ rw (sym checked ∙ pass)
-
-  pub stage_refused : {r : Refusal} → o ≡ Err r → Err r ≡ whole
-  unfolding ◌then◌
-  stage_refused refused = sym (decides ∙ rw (sym checked ∙ refused))
 
 -- a test that must pass, and the next check after one
 pub require_true : {b : Bool} (r : Refusal) → b ≡ true → require b r ≡ Ok tt

@@ -1,4 +1,5 @@
-// What every reader of bytes stands on: bytes as numbers, checks in a row, entries of tables, bodies of sections, cells of shared records.
+// What every reader of bytes stands on: bytes as numbers, entries of tables, a test that must pass, bodies of sections, cells of
+// shared records.
 #![tactic(auto)]
 
 pub mod bytes;

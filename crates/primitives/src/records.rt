@@ -1,8 +1,10 @@
 // Cells of the records that several readers share: of a map, of a supplied partition and of a node.
-// A function for each cell, though each is a line: its name says more than a place as a parameter. Flags and totality are
-// numbers, since sections 2 and 3 are refused for what is above 3 and 1.
+// A function for each cell, though each is a line: its name says more than a place as a parameter. Cells are `usize` with the
+// bound of a byte, since places are made of them. Flags and totality are numbers: sections 2 and 3 are refused for what is
+// above 3 and 1.
 ghost use Rattle.std.specs.Prelude.{◌≡◌, ◌+◌, ◌*◌, ◌^◌, ◌<◌};
-ghost use Rattle.model.specs.Layout.{Plan, source, target, totality, supplied_region, supplied_flags};
+ghost use Rattle.model.specs.Tests.{◌or◌, ◌=?◌};
+ghost use Rattle.model.specs.Layout.{Plan, source, target, totality, supplied_region, supplied_flags, node_a, node_b};
 ghost use Rattle.model.specs.Nodes.{node_kind_of, node_kind_at};
 
 use crate::bytes::byte_at;
@@ -49,15 +51,30 @@ pub fn supplied_flags(supplied: &[u8], partition: usize) -> usize
     byte_at(supplied, partition * 2 + 1)
 }
 
-// The kind that a number stands for.
+// What the flags of a supplied partition declare it to be.
+pub const DISJOINT: usize = 1;
+
+pub const COMPLETE: usize = 2;
+
+const BOTH: usize = 3;
+
+// Whether flags declare a supplied partition to be that.
+#[tactic(auto, using(crate::proofs::OpenTests::tests_open))]
+pub fn is_declared(flags: usize, flag: usize) -> bool
+    ensures { result ≡ (flags =? flag or flags =? 3) }
+{
+    (flags == flag) | (flags == BOTH)
+}
+
+// The kind that a number stands for. A function for nodes and one for statements (`loops::kinds::kind_of`): one for both
+// would take a trait that says of each enum what its definition is, longer than the two.
 #[tactic(auto, using(crate::proofs::NoKinds::no_node_kind))]
 pub fn node_kind_of(number: usize) -> NodeKind
     ensures { result ≡ node_kind_of number }
 {
-    if number < 256 {
-        NodeKind::from(number as u8)
-    } else {
-        NodeKind::Unknown
+    match u8::try_from(number) {
+        Ok(byte) => NodeKind::from(byte),
+        Err(_) => NodeKind::Unknown,
     }
 }
 
@@ -68,4 +85,14 @@ pub fn node_kind(nodes: &[u8], j: usize) -> NodeKind
     ensures { (P : Plan) → P.nodes ≡ nodes.now → result ≡ node_kind_at P j }
 {
     NodeKind::from(entry_or(nodes, j * 4, 0))
+}
+
+// The operands of node j.
+pub fn node_operands(nodes: &[u8], j: usize) -> (usize, usize)
+    requires { j * 4 + 3 < 2 ^ 64 }
+    ensures left { (P : Plan) → P.nodes ≡ nodes.now → result.0 ≡ node_a P j }
+    ensures right { (P : Plan) → P.nodes ≡ nodes.now → result.1 ≡ node_b P j }
+    ensures bytes { (result.0 < 256) × (result.1 < 256) }
+{
+    (byte_at(nodes, j * 4 + 1), byte_at(nodes, j * 4 + 2))
 }

@@ -5,9 +5,7 @@ ghost use Rattle.primitives.specs.Sections.{frame_of, Delimits};
 
 use crate::bytes::{byte_at, u16_at};
 
-// Sections of a plan, by what they hold: how many others each comes after.
-pub const NODES: usize = 4;
-
+// The section of a plan that a report reads again: how many others it comes after.
 pub const ASSIGNMENTS: usize = 5;
 
 // The sections of a data set.
@@ -19,7 +17,8 @@ pub const ENTRIES: usize = 2;
 
 pub const MEMBERS: usize = 3;
 
-// The place after so many sections, for none to 8 of them; 0 for more than were read.
+// The place after so many sections, for none to 8 of them; 0 for more than were read. An array and no `ArrayVec`, which is
+// not `Copy`; and how many were read is known where it is read.
 #[derive(Clone, Copy)]
 pub struct Frame {
     pub boundaries: [usize; 9],

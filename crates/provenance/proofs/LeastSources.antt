@@ -120,3 +120,6 @@ module _ (set : List ℕ) (entries : Bytes) (element : ℕ) where
   pub none_at_all : (w : ℕ) → NoneBefore (64 * w) → length entries ≤ 128 * w → FirstOf (leads_to set entries element) (length entries / 2) None
   none_at_all w past end =
       sym (first_is (leads_to set entries element) (length entries / 2) (length entries / 2) (omega arith) (λ lt. absurd (omega arith)) (λ g lg. past g (omega arith)))
+
+-- what the proof of `least_source` cites
+pub ruleset sources = (word_room, none_here)

@@ -28,7 +28,8 @@ use Rattle.primitives.proofs.Searching.{first_same}
 use Rattle.subregions.proofs.NodeOperators.{byte_is}
 use Rattle.provenance.specs.declared.piece.Piece.{Piece}
 use Rattle.provenance.specs.Sources.{leads_to, FirstOf, SourcesRoom}
-use Rattle.provenance.specs.Members.{MemberOf, SetOf, EntriesOf, plan_of_piece, data_of_piece, pair_after}
+use Rattle.dataset.specs.Entries.{EntriesOf}
+use Rattle.provenance.specs.Members.{MemberOf, SetOf, plan_of_piece, data_of_piece, pair_after}
 
 module _ {piece : Piece} {x : Pair} (m : MemberOf piece x) where
   abbrev P : Plan

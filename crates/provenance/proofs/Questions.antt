@@ -1,12 +1,12 @@
 -- The stages of a question's answer in a row: each refusal, and what is known after it. Assumes nothing.
-use Prim.Native.Nat.{ℕ, ◌+◌, ◌<◌}
-use mathlib.Core.Path.{◌≡◌, refl, ap, ◌∙◌}
+use Prim.Native.Nat.{ℕ, ◌+◌, ◌≤◌, ◌<◌}
+use mathlib.Core.Path.{◌≡◌, refl, sym, ap, ◌∙◌}
 use mathlib.Core.Bool.{Bool}
 use mathlib.Core.List.{List}
 use native.Mathlib.Omega.{arith}
 use lib.ListN.{length}
 use Rattle.std.specs.Prelude.{Ok, Err}
-use Rattle.model.specs.Tests.{◌and◌, ◌≤?◌}
+use Rattle.model.specs.Tests.{Is, ◌and◌, ◌≤?◌}
 use Rattle.model.specs.Outcomes.{require, ◌then◌, conclude, Outcome}
 use Rattle.model.specs.Layout.{Plan, node_count}
 use Rattle.model.specs.Nodes.{node_region}
@@ -49,8 +49,8 @@ module _ {inputs : Inputs} {q : Question} {lent : ℕ} (ready : ExistingReady in
   there : Exists (plan_given inputs) (data_given inputs) q
   there = exists _ _ q ready.exists
 
-  pub piece_ready : PieceReady inputs q.node q.piece lent
-  piece_ready = record { node_listed = there.node_listed; piece_listed = there.piece_listed; enough = ready.room }
+  pub piece_ready : {piece : ℕ} → piece ≤ q.piece → PieceReady inputs q.node piece lent
+  piece_ready near = record { node_listed = there.node_listed; piece_listed = omega (arith, there.piece_listed); enough = ready.room }
 
   pub few_elements : q.element < 512
   few_elements =
@@ -66,6 +66,10 @@ module _ {inputs : Inputs} {q : Question} {lent : ℕ} (ready : ExistingReady in
         room = omega (arith, ap length is, piece_room (plan_given inputs) (data_given inputs) q.piece (q.node + 1) old);
         held = λ j e lj le. rw is (piece-holds (plan_given inputs) (data_given inputs) q.piece (q.node + 1) old (omega arith) (omega arith) j e (omega arith) le);
       }
+
+-- what the test of both slices says
+pub room_there : (chain : List Link) (nodes elements : ℕ) {test : Bool} → test ≡ (length chain ≤? nodes and length chain ≤? elements) → Is test → ChainRoom chain nodes elements
+room_there chain nodes elements is h = let (first, second) = both (sym is ∙ h) in record { nodes_room = most first; elements_room = most second }
 
 -- the stages of an answer
 module _ (P : Plan) (D : DataSet) (q : Question) (old_nodes old_elements : List ℕ) where
@@ -102,10 +106,6 @@ module _ (P : Plan) (D : DataSet) (q : Question) (old_nodes old_elements : List 
 
       pub room_refused : {r : Refusal} → require room (OutputTooSmall (length chain)) ≡ Err r → Answered P D q old_nodes old_nodes old_elements old_elements (Err r)
       room_refused h = refused (room_is ∙ h)
-
-      -- what it says
-      pub room_there : require room (OutputTooSmall (length chain)) ≡ Ok tt → ChainRoom chain (length old_nodes) (length old_elements)
-      room_there h = let (nodes, elements) = both (require_pass _ _ h) in record { nodes_room = most nodes; elements_room = most elements }
 
       pub answered : require room (OutputTooSmall (length chain)) ≡ Ok tt → {new_nodes new_elements : List ℕ} → ChainWritten chain old_nodes new_nodes old_elements new_elements
           → Answered P D q old_nodes new_nodes old_elements new_elements (Ok (length chain))

@@ -1,9 +1,8 @@
 -- The members of a piece, by its words and its inputs.
-use Rattle.std.specs.Prelude.{ℕ, ◌*◌, ◌≤◌, ◌<◌, ◌≡◌, List, length}
+use Rattle.std.specs.Prelude.{ℕ, ◌≤◌, ◌<◌, ◌≡◌, List, length}
 use Rattle.model.specs.Tests.{Is}
-use Rattle.model.specs.Bytes.{Bytes, u16}
-use Rattle.model.specs.Layout.{Plan, source}
-use Rattle.model.specs.DataSets.{DataSet, size, entry}
+use Rattle.model.specs.Layout.{Plan}
+use Rattle.model.specs.DataSets.{DataSet}
 use Rattle.model.specs.Membership.{member}
 use Rattle.model.specs.Words.{holds}
 use Rattle.model.specs.Provenance.{questioned, next_pair}
@@ -36,8 +35,3 @@ module _ (piece : Piece) where
 pub record SetOf (piece : Piece) (node : ℕ) (set : List ℕ) : Type 0 where
   pub eight : length set ≡ 8
   pub held : (e : ℕ) → e < 512 → holds set 0 e ≡ member (plan_of_piece piece) (data_of_piece piece) node piece.question.piece e
-
--- a map's entries
-pub record EntriesOf (P : Plan) (D : DataSet) (map : ℕ) (entries : Bytes) : Type 0 where
-  pub long : length entries ≡ 2 * size D (source P map)
-  pub entry_at : (k : ℕ) → k < size D (source P map) → u16 entries (2 * k) ≡ entry P D map k

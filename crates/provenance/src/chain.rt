@@ -32,7 +32,7 @@ impl Link {
     }
 }
 
-// Whether a chain ends at a node of this kind.
+// Whether a chain ends at a node of this kind. One case for each kind (project's form).
 #[tactic(auto, unfolding(model::specs::Provenance::ends_by))]
 fn ends_chain(kind: NodeKind) -> bool
     ensures { result ≡ ends_by kind }
@@ -104,7 +104,7 @@ impl Piece<'_> {
     }
 }
 
-// Writes the chain into two slices that have room for it.
+// Writes the chain into two slices that have room for it: two, and not one of pairs, since C lends them so.
 pub fn write_chain(chain: &[Link], nodes: &mut [u16], elements: &mut [u16])
     requires { ChainRoom chain.now (length nodes.old) (length elements.old) }
     ensures { ChainWritten chain.now nodes.old nodes.new elements.old elements.new }

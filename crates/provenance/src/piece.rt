@@ -2,11 +2,9 @@
 ghost use Rattle.provenance.specs.Piece.{PieceHeld};
 
 use bitsets::words::holds;
-use dataset::cells::region_size;
 use evaluate::inputs::Inputs;
 use model::{NodeKind, Question};
-use primitives::bytes::byte_at;
-use primitives::records::{map_source, node_kind};
+use primitives::records::{node_kind, node_operands};
 
 // The piece of each node up to the one asked about, of what the inputs say: node j's set stands at word j * 8.
 #[derive(Clone, Copy)]
@@ -17,12 +15,15 @@ pub struct Piece<'a> {
     pub ghost held: { PieceHeld inputs.now question words.now },
 }
 
+// Each method requires that its node is not past the one asked about: the node is a place in the words, and comes with each call.
+// `inputs` is put into a variable first: a field behind a reference that is itself a field is read only so.
 impl Piece<'_> {
     ghost use Rattle.std.specs.Prelude.{◌≡◌, ◌≤◌, ◌<◌};
     ghost use Rattle.model.specs.Layout.{map_count, node_a, node_b};
     ghost use Rattle.model.specs.Nodes.{node_kind_at};
     ghost use Rattle.model.specs.Membership.{member};
-    ghost use Rattle.provenance.specs.Members.{plan_of_piece, data_of_piece, SetOf, EntriesOf};
+    ghost use Rattle.dataset.specs.Entries.{EntriesOf};
+    ghost use Rattle.provenance.specs.Members.{plan_of_piece, data_of_piece, SetOf};
 
     // The kind of a node, of those whose words are there.
     pub fn kind(&self, node: usize) -> NodeKind
@@ -40,11 +41,11 @@ impl Piece<'_> {
         ensures bytes { (result.0 < 256) × (result.1 < 256) }
     {
         let inputs = self.inputs;
-        let nodes = inputs.reading.sections.nodes;
-        (byte_at(nodes, node * 4 + 1), byte_at(nodes, node * 4 + 2))
+        node_operands(inputs.reading.sections.nodes, node)
     }
 
     // The eight words of a node's set.
+    #[tactic(auto, using(crate::proofs::Parts::node_set))]
     pub fn set(&self, node: usize) -> &[u64]
         requires { node ≤ self.now.question.node }
         ensures { SetOf self.now node result.now }
@@ -58,10 +59,7 @@ impl Piece<'_> {
         ensures { EntriesOf (plan_of_piece self.now) (data_of_piece self.now) map result.now }
     {
         let inputs = self.inputs;
-        let maps = inputs.reading.sections.maps;
-        let start = inputs.layout.entry_starts[map];
-        let end = start + 2 * region_size(inputs.layout.sizes, map_source(maps, map));
-        &inputs.layout.entries[start..end]
+        inputs.layout.map_entries(inputs.reading.sections.maps, map)
     }
 
     // Whether the piece of a node holds an element.

@@ -1,9 +1,11 @@
 // A question about inputs: whether what it names exists, and the chain that answers it.
+// `nodes` and `elements` are two slices, and not one of pairs: the C interface lends them so.
 ghost use Rattle.std.specs.Prelude.{◌≡◌, ◌≤◌, length};
+ghost use Rattle.model.specs.Tests.{◌and◌, ◌≤?◌};
 ghost use Rattle.evaluate.specs.Inputs.{plan_given, data_given};
 ghost use Rattle.provenance.specs.Question.{existence_check, ExistingReady, Answered};
 
-use crate::chain::write_chain;
+use crate::chain::{Link, write_chain};
 use crate::piece::Piece;
 use evaluate::inputs::Inputs;
 use evaluate::words::{fill_piece, sources_of};
@@ -20,6 +22,14 @@ fn check_existence(inputs: &Inputs, question: Question) -> Result<(), Refusal>
     require(question.piece < inputs.layout.pieces, Refusal::NotFound(2))?;
     let size = sources_of(inputs).node_size(question.node);
     require(question.element < size, Refusal::NotFound(3))
+}
+
+// Whether both slices have room for the chain.
+#[tactic(auto, using(primitives::proofs::OpenTests::tests_open))]
+fn have_room(chain: &[Link], nodes: &[u16], elements: &[u16]) -> bool
+    ensures { result ≡ (length chain.now ≤? length nodes.now and length chain.now ≤? length elements.now) }
+{
+    (chain.len() <= nodes.len()) & (chain.len() <= elements.len())
 }
 
 // Answers a question about what exists, by way of words for the nodes up to the one asked about: it is a member, and both
@@ -43,12 +53,14 @@ fn answer_with<const WORDS: usize>(
     };
     let member = piece.has(question.node, question.element);
     require(member, Refusal::NotFound(4))?;
-    let chain = piece.trace();
-    let length = chain.len();
-    let room = (length <= nodes.len()) & (length <= elements.len());
-    require(room, Refusal::OutputTooSmall(length))?;
-    write_chain(&chain, nodes, elements);
-    Ok(length)
+    let pairs = piece.trace();
+    let chain = pairs.as_slice();
+    require(
+        have_room(chain, nodes, elements),
+        Refusal::OutputTooSmall(chain.len()),
+    )?;
+    write_chain(chain, nodes, elements);
+    Ok(chain.len())
 }
 
 // Answers the question: what it names exists, and then as above. Clearing words for 48 nodes is felt in a small plan's

@@ -22,10 +22,12 @@ fn least_in_word(members: u64, entries: &[u8], element: usize) -> Option<usize>
 }
 
 // The least element that the set holds and whose entry is this element.
+#[tactic(auto, using(crate::proofs::LeastSources::sources))]
 pub fn least_source(set: &[u64], entries: &[u8], element: usize) -> Option<usize>
     requires { SourcesRoom set.now entries.now }
     ensures { FirstOf (leads_to set.now entries.now element) (length entries.now / 2) result }
 {
+    // Not by `find_map`: its closure would have to require, beside `w`'s bound, the room of the set and how many words there are.
     for w in 0..entries.len().div_ceil(128) {
         if let Some(place) = least_in_word(set[w], &entries[128 * w..], element) {
             return Some(64 * w + place);

@@ -12,7 +12,7 @@ use lib.Seq.{get_or-take, take_all, length-take-le}
 use Rattle.std.specs.Prelude.{Ok, Err}
 use Rattle.model.specs.Bytes.{Bytes, byte, boundary}
 use Rattle.model.specs.Tests.{Is, ◌and◌, non, ◌≤?◌}
-use Rattle.model.specs.Outcomes.{require, ◌then◌, scan, conclude, Outcome}
+use Rattle.model.specs.Outcomes.{require, ◌then◌, conclude, Outcome}
 use Rattle.model.specs.Layout.{Plan, plan_of, section_check, layout_check}
 use Rattle.model.specs.Verdict.{plan_check, accepted}
 use Rattle.model.specs.DataSets.{data_check, well_framed}
@@ -25,6 +25,7 @@ use Rattle.model.proofs.Outcomes.{then_pass, required, conclude_ok}
 use Rattle.model.proofs.Accepted.{laid_out_lem, plan_accepted}
 use Rattle.model.proofs.Fitting.{data_laid_out}
 use Rattle.primitives.proofs.Bodies.{boundary_most}
+use Rattle.primitives.proofs.Scanning.{scan_same}
 use Rattle.report.specs.Buffers.{plan_bytes, data_bytes}
 
 -- the sections of a prefix that is long enough end where those of the whole do
@@ -36,13 +37,6 @@ module _ (s : Bytes) (bytes : (i : ℕ) → byte s i < 256) where
       let here : boundary s n < k = omega (arith, boundary_most s bytes n) in
       let next : boundary s n + 1 < k = omega (arith, boundary_most s bytes n) in
       rw (boundary_prefix k many n long (omega arith), get_or-take, get_or-take)
-
--- scans whose checks agree
-scan_same : (f g : ℕ → Outcome) (k n : ℕ) → ((l : ℕ) → l < k + n → f l ≡ g l) → scan f k n ≡ scan g k n
-unfolding scan
-scan_same f g k zero same_at = refl
-scan_same f g k (suc n) same_at =
-    rw (same_at k (omega arith), scan_same f g (suc k) n (λ l lt. same_at l (omega arith)))
 
 -- after a refusal nothing is asked
 then_same : (o o' a b : Outcome) → o ≡ o' → (o' ≡ Ok tt → ⊥) → o then a ≡ o' then b

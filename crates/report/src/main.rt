@@ -9,7 +9,7 @@ ghost use Rattle.report.specs.Printed.{symbols_text, Printed};
 
 use dataset::cells::piece_count;
 use evaluate::evaluate;
-use files::read_file;
+use files::read_start;
 use layout::cells::assigned_node;
 use listing::{print_answer, print_node};
 use std::io;
@@ -25,7 +25,7 @@ const DATA_BYTES: usize = 262_150;
 const MOST_WORDS: usize = 6144;
 
 // Prints the members of each symbol's pieces.
-#[tactic(auto, using(listing::proofs::Written::none_written, listing::proofs::Written::then_written), unfolding(crate::specs::Printed::symbols_text))]
+#[tactic(auto, using(listing::proofs::Written::written), unfolding(crate::specs::Printed::symbols_text))]
 fn print_symbols<W: Write>(
     out: &mut W,
     plan: &[u8],
@@ -61,8 +61,8 @@ fn read_inputs<R: Files + Eprint + AllocGlobal>(rt: &R) -> Option<(Vec<u8>, Vec<
     ensures limits { (PLAN_BYTES ≡ plan_bytes) × (DATA_BYTES ≡ data_bytes) }
     ensures within { IfSome result (λ inputs. (vec_len inputs.0 ≤ plan_bytes) × (vec_len inputs.1 ≤ data_bytes)) }
 {
-    let plan = read_file(rt, b"plan.bin", PLAN_BYTES);
-    let data = read_file(rt, b"data.bin", DATA_BYTES);
+    let plan = read_start(rt, b"plan.bin", PLAN_BYTES);
+    let data = read_start(rt, b"data.bin", DATA_BYTES);
     plan.zip(data)
 }
 

@@ -37,11 +37,6 @@ pub record OperandsRead (P : Plan) (j a b : ℕ) : Type 0 where
   pub a_is : a ≡ node_a P j
   pub b_is : b ≡ node_b P j
 
-pub operands_read : {P : Plan} {nodes : List ℕ} {j a b : ℕ} → nodes ≡ P.nodes
-    → a ≡ get_or nodes (j * 4 + 1) 0 → b ≡ get_or nodes (j * 4 + 2) 0 → OperandsRead P j a b
-operands_read {j} is q r =
-    record { a_is = q ∙ ap (λ (l : List ℕ). get_or l (j * 4 + 1) 0) is; b_is = r ∙ ap (λ (l : List ℕ). get_or l (j * 4 + 2) 0) is }
-
 module _ {P : Plan} {d : Bytes} {read : Sources} {span : Span} {lent j : ℕ}
     (H : NodeSources P d read span lent j) where
   fitted : Fit P (data_of d)

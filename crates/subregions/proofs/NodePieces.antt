@@ -17,7 +17,7 @@ use Rattle.model.proofs.Words.{word_same, word_element, store_length, store_same
 use Rattle.bitsets.specs.Elements.{up_to, word_at, PieceOf, combined, masked, supplied_elements, entries_of, leading_to, through}
 use Rattle.subregions.specs.Operators.{TargetsTable, TargetsRoom, OperandSet, ImagePieceRoom, PreimagePieceRoom, PreimagePieceOf}
 use Rattle.subregions.specs.Pieces.{piece_words, PiecesMade, supplied_pieces, combined_pieces, image_pieces, preimage_pieces, ImageRoom}
-use Rattle.subregions.proofs.Maps.{entries_first, leading_at, leading_past, leading_none}
+use Rattle.subregions.proofs.Maps.{supplied_from, entries_first, leading_at, leading_past, leading_none}
 
 -- so many of a node's pieces written
 pub record PiecesWritten (old : List ℕ) (partition : Partition) (N : ℕ) (new : List ℕ) (i : ℕ) : Type 0 where
@@ -152,11 +152,13 @@ masked_is size masks m S T e h same = ap₂ ◌and◌ (mask_holds size masks m e
 
 -- a piece that is supplied
 pub supplied_made : (members masks piece : List ℕ) (size bytes i : ℕ) → bytes ≡ (size + 7) / 8 → PieceOf (up_to size) masks
-    → PieceOf (masked masks (supplied_elements members (i * bytes))) piece → PieceOf (supplied_pieces members size i) piece
+    → PieceOf (masked masks (supplied_elements (drop (i * bytes) members) 0)) piece → PieceOf (supplied_pieces members size i) piece
 unfolding supplied_pieces
 supplied_made members masks piece size bytes i whole m made =
-    let elements : ℕ → Bool = supplied_elements members (i * ((size + 7) / 8)) in
-    piece_same (rw whole at made) (λ e h. masked_is size masks m elements elements e h refl)
+    let begin : ℕ = i * ((size + 7) / 8) in
+    let here : begin + 0 ≡ begin = omega arith in
+    piece_same (rw whole at made)
+    (λ e h. masked_is size masks m _ (supplied_elements members begin) e h (supplied_from members begin 0 e ∙ ap (λ (x : ℕ). supplied_elements members x e) here))
 
 -- a piece combined from the operands'
 pub combined_made : (left right : List ℕ) (combination : Bool → Bool → Bool) (size i : ℕ) {masks piece : List ℕ} → PieceOf (up_to size) masks

@@ -220,16 +220,16 @@ combined-word left right masks combination at w x h =
     ∙ ap₂ combination (sym (holds-bit left at w e l)) (sym (holds-bit right at w e l)))
 
 -- a word of eight bytes, each in reverse order
-pub supplied_word : (masks members : List ℕ) (from w x y : ℕ) → x ≡ from_bits 64 (bytes_bits members (from + 8 * w)) → y ≡ from_bits 64 (reversed_bits x)
-    → bit_and y (get_or masks w 0) ≡ word (masked masks (supplied_elements members from)) w
+pub supplied_word : (masks members : List ℕ) (w x y : ℕ) → x ≡ from_bits 64 (bytes_bits members (8 * w)) → y ≡ from_bits 64 (reversed_bits x)
+    → bit_and y (get_or masks w 0) ≡ word (masked masks (supplied_elements members 0)) w
 unfolding bytes_bits reversed_bits supplied_elements
-supplied_word masks members from w x y p q =
-    masked-word masks (supplied_elements members from) w y (rw q (number_less 64 (reversed_bits x)))
+supplied_word masks members w x y p q =
+    masked-word masks (supplied_elements members 0) w y (rw q (number_less 64 (reversed_bits x)))
     (λ b l.
-    let place : from + 8 * w + (b / 8 * 8 + (7 - b % 8)) / 8 ≡ from + (w * 64 + b) / 8 = omega arith in
+    let place : 8 * w + (b / 8 * 8 + (7 - b % 8)) / 8 ≡ 0 + (w * 64 + b) / 8 = omega arith in
     let bit-place : (b / 8 * 8 + (7 - b % 8)) % 8 ≡ 7 - (w * 64 + b) % 8 = omega arith in
     ap (λ (z : ℕ). bit z b) q ∙ bit_number 64 (reversed_bits x) b l
-    ∙ ap (λ (z : ℕ). bit z (b / 8 * 8 + (7 - b % 8))) p ∙ bit_number 64 (bytes_bits members (from + 8 * w)) (b / 8 * 8 + (7 - b % 8)) (omega arith)
+    ∙ ap (λ (z : ℕ). bit z (b / 8 * 8 + (7 - b % 8))) p ∙ bit_number 64 (bytes_bits members (8 * w)) (b / 8 * 8 + (7 - b % 8)) (omega arith)
     ∙ ap₂ (λ (k e : ℕ). bit (byte members k) e) place bit-place)
 
 -- a piece's words within a mask, and a word of 0 behind them

@@ -10,18 +10,16 @@ use crate::pieces::{fill_combined, fill_equal, fill_image, fill_preimage, fill_s
 use crate::sources::{Sources, part_from};
 use bitsets::words::{Difference, Intersection, Union, has_bit};
 use model::NodeKind;
-use primitives::bytes::byte_at;
-use primitives::records::node_kind;
+use primitives::records::{node_kind, node_operands};
 
 // Fills node j from its operands' words. Each of the three operators on two sets has a loop of its own, so that the
 // compiler combines a piece's words two at a time without a test.
-pub fn fill_node(words: &mut [u64], sources: &Sources, span: Span, j: usize)
+fn fill_node(words: &mut [u64], sources: &Sources, span: Span, j: usize)
     requires { NodeReady sources.now span (length words.old) j }
     ensures { (P : Plan) (d : Bytes) → NodeSources P d sources.now span (length words.old) j → words.new ≡ node_filled P (data_of d) span words.old j }
 {
     let kind = node_kind(sources.nodes, j);
-    let a = byte_at(sources.nodes, j * 4 + 1);
-    let b = byte_at(sources.nodes, j * 4 + 2);
+    let (a, b) = node_operands(sources.nodes, j);
     let size = sources.node_size(j);
     let count = span.count;
     let (earlier, own) = words.split_at_mut(j * count * 8);

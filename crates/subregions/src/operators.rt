@@ -1,4 +1,7 @@
 // The operators on one piece: its eight words are made from numbers, bytes, or the words of earlier pieces.
+// A piece that is written is a place in all words: after `first_chunk_mut().unwrap()` or a loop over `chunks_exact_mut(8)`
+// (both tried) a proof knows how many words there are, and not which. One that is read is a place too, as in bitsets: one
+// place serves both operands, where slices would say it twice.
 ghost use Rattle.std.specs.Prelude.{◌≡◌, ◌+◌, ◌*◌, ◌^◌, ◌≤◌, ◌<◌, min, length};
 ghost use Rattle.model.specs.Bytes.{u16};
 ghost use Rattle.model.specs.Words as Words;
@@ -57,13 +60,12 @@ fn piece_bytes(members: &[u8], at: usize, inside: bool) -> u64
     }
 }
 
-// The set that a supplied partition's bytes list, within the mask.
-pub fn supplied_piece(members: &[u8], masks: &[u64; 8], from: usize) -> [u64; 8]
-    requires { from < 2 ^ 31 }
-    ensures { PieceOf (masked masks.now (supplied_elements members.now from)) result }
+// The set that the bytes of a supplied partition's piece list, within the mask.
+pub fn supplied_piece(members: &[u8], masks: &[u64; 8]) -> [u64; 8]
+    ensures { PieceOf (masked masks.now (supplied_elements members.now 0)) result }
 {
-    let inside = from + 64 <= members.len();
-    array::from_fn(|w| reverse_bytes(piece_bytes(members, from + 8 * w, inside)) & masks[w])
+    let inside = members.len() >= 64;
+    array::from_fn(|w| reverse_bytes(piece_bytes(members, 8 * w, inside)) & masks[w])
 }
 
 // The pieces at a place of two operands combined, within the mask.
@@ -88,7 +90,7 @@ fn target(entries: &[u8], at: usize) -> u16
     u16_inside(entries, at).min(512)
 }
 
-// The elements that a map's entries lead to.
+// The elements that a map's first `count` entries lead to; those of later maps may stand behind them.
 pub fn targets(entries: &[u8], count: usize) -> [u16; 512]
     requires { (count ≤ 512) × (2 * count ≤ length entries.now) }
     ensures { TargetsTable entries.now count result }
@@ -143,7 +145,8 @@ pub fn preimage_piece(table: &[u16; 512], set: &[u64; 9], count: usize) -> [u64;
     piece
 }
 
-// Adds to a set the entries of a word's members; the entry of its first element stands at `start`.
+// Adds to a set the entries of a word's members; the entry of its first element stands at `start`. A place, and no part of
+// the entries: there may be none so far behind, where the word has no member either.
 fn add_entries(set: &mut [u64; 9], entries: &[u8], start: usize, members: u64)
     requires { EntriesRoom entries.now start members }
     ensures { EntriesAdded entries.now start members set.old set.new }

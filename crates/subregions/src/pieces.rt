@@ -1,7 +1,7 @@
 // The operators on a node's pieces, one after the other: eight words each, from the first of a node's words on.
 // Words, count and size are parameters each: the words are lent anew for each node (project's form), and size means another
 // region in each.
-ghost use Rattle.std.specs.Prelude.{◌≡◌, ℕ, ◌+◌, ◌*◌, ◌≤◌, ◌<◌, min, length};
+ghost use Rattle.std.specs.Prelude.{◌≡◌, ℕ, ◌+◌, ◌*◌, ◌≤◌, ◌<◌, min, length, drop};
 ghost use Rattle.model.specs.Words.{holds, store};
 ghost use Rattle.bitsets.specs.Elements.{masked, combined, supplied_elements, entries_of, PieceOf};
 ghost use Rattle.subregions.specs.Operators.{CombinedPieceRoom, ImagePieceRoom, TargetsRoom, PreimagePieceOf};
@@ -12,6 +12,7 @@ use crate::operators::{
     combined_piece, image_piece, operand_set, preimage_piece, supplied_piece, targets, write_piece,
     write_range,
 };
+use crate::sources::part_from;
 use bitsets::words::{SetOperator, region_masks};
 
 // The first `count` pieces become what is made for each.
@@ -38,8 +39,8 @@ pub fn fill_supplied(words: &mut [u64], members: &[u8], size: usize, span: Span)
         span.count,
         |i: usize| -> [u64; 8]
             requires { (first + i < 16) × (bytes ≤ 64) }
-            ensures { PieceOf (masked masks (supplied_elements members.entry.now ((first + i) * bytes))) result }
-        { supplied_piece(members, &masks, (first + i) * bytes) },
+            ensures { PieceOf (masked masks (supplied_elements (drop ((first + i) * bytes) members.entry.now) 0)) result }
+        { supplied_piece(part_from(members, (first + i) * bytes), &masks) },
     );
 }
 
@@ -51,7 +52,7 @@ fn equal_start(quotient: usize, remainder: usize, i: usize) -> usize
     quotient * i + i.min(remainder)
 }
 
-// The span's pieces of an equal partition, each written where it stays.
+// The span's pieces of an equal partition, each written where it stays, from where the one before ended.
 pub fn fill_equal(words: &mut [u64], size: usize, span: Span)
     requires { EqualRoom words.old size span }
     ensures { words.new ≡ store words.old 0 (span.count * 8) (piece_words (pieces_from span.first (equal_pieces size span.pieces))) }

@@ -16,7 +16,8 @@ pub(crate) fn part_from<T>(s: &[T], at: usize) -> &[T]
 }
 
 // Of a plan the nodes and their regions. Of a data set the regions' sizes, the maps' entries and the supplied partitions'
-// members, with the places where those of each map and of each partition begin.
+// members, with the places where those of each map and of each partition begin. Slices side by side, as plan and data set
+// lend them: a data set's layout in their place would ask callers for tables of a fixed length.
 #[derive(Clone, Copy, Debug)]
 pub struct Sources<'a> {
     pub nodes: &'a [u8],
@@ -40,7 +41,8 @@ impl Sources<'_> {
         u16_at(self.sizes, 2 * byte_at(self.node_regions, j))
     }
 
-    // The entries of a map, and those behind them.
+    // The entries of a map, and those behind them. A line for entries and one for members: their names say more than a section
+    // and its starts as parameters.
     pub fn map_entries(&self, map: usize) -> &[u8]
         ensures { result.now ≡ drop (get_or self.now.entry_starts.now map 0) self.now.entries.now }
     {

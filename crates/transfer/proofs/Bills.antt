@@ -6,7 +6,7 @@ use Rattle.std.specs.Prelude.{Ok, Err}
 use Rattle.model.specs.Bytes.{Bytes}
 use Rattle.model.specs.Tests.{◌and◌, ◌=?◌, ◌<?◌, ◌≤?◌}
 use Rattle.model.specs.Outcomes.{require, ◌then◌, conclude}
-use Rattle.model.specs.Layout.{Plan, plan_of, node_count}
+use Rattle.model.specs.Layout.{Plan, node_count}
 use Rattle.model.specs.Nodes.{node_region}
 use Rattle.model.specs.DataSets.{DataSet, data_of}
 use Rattle.model.specs.Evaluation.{inputs_check}

@@ -5,7 +5,6 @@ ghost use Rattle.evaluate.specs.Inputs.{plan_given};
 
 use evaluate::inputs::Inputs;
 use model::{Charge, Refusal, Transfer};
-use primitives::bytes::byte_at;
 use primitives::outcomes::require;
 
 // Whether both nodes exist, are of one region, and the price is not too high, in this order.
@@ -13,13 +12,13 @@ use primitives::outcomes::require;
 pub fn check_transfer(inputs: &Inputs, transfer: Transfer) -> Result<(), Refusal>
     ensures { result ≡ transfer_check (plan_given inputs.now) transfer }
 {
-    let nodes = inputs.reading.acceptance.nodes;
+    let reading = &inputs.reading;
+    let nodes = reading.acceptance.nodes;
     if transfer.accessed >= nodes || transfer.owned >= nodes {
         return Err(Refusal::InvalidCharge(1));
     }
-    let regions = &inputs.reading.node_regions;
     require(
-        byte_at(regions, transfer.accessed) == byte_at(regions, transfer.owned),
+        reading.node_region(transfer.accessed) == reading.node_region(transfer.owned),
         Refusal::InvalidCharge(2),
     )?;
     require(transfer.price <= 1_000_000, Refusal::InvalidCharge(3))

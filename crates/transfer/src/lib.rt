@@ -13,7 +13,9 @@ use model::{Charge, Refusal, Transfer};
 mod bill;
 mod fetching;
 
-// Counts the elements of the accessed node's pieces that the owned node's lack, and prices them, in cents for a thousand.
+// Counts the elements of the accessed node's pieces that the owned node's lack, and prices them, in cents for a thousand. The
+// numbers come one by one, as the exported function is handed them (C interface).
+#[tactic(auto, using(crate::proofs::Bills::both_exist, crate::proofs::Bills::price_few))]
 pub fn charge(
     plan: &[u8],
     data: &[u8],

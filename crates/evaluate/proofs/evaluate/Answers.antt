@@ -1,6 +1,4 @@
 -- Refused where the inputs are, or where too few words are lent; else filled (Stages). Assumes nothing.
-use mathlib.Core.Path.{◌≡◌, sym, ◌∙◌}
-use native.Mathlib.Omega.{arith}
 use Rattle.primitives.proofs.Stages.{handed_on}
 use Rattle.evaluate.proofs.Stages.{inputs_refused, words_lacking, words_enough, refusal_given, words_filled}
 use Rattle.evaluate.proofs.evaluate.Goals as goal
@@ -11,9 +9,6 @@ returns-in_err-inputs c =
 
 pub returns-then-words-needed : goal.returns-then-words-needed
 returns-then-words-needed c = refusal_given _ _ _ (words_lacking c.in_ok-inputs.ensures _ c.words_needed-needed.ensures c.if-words-needed.true)
-
-pub fill_words-requires : goal.fill_words-requires
-fill_words-requires c = omega (arith, c.words_needed-needed.ensures, c.if-words-needed.false)
 
 pub returns : goal.returns
 returns c =

@@ -1,10 +1,8 @@
 -- What passes is counted and priced; the first refusal is handed on (Bills). Assumes nothing.
-use mathlib.Core.Path.{◌≡◌, sym, ap, ◌∙◌}
-use Rattle.std.specs.Prelude.{Ok}
-use Rattle.model.specs.Transfers.{transferring, transfer_check, priced}
+use mathlib.Core.Path.{sym, ap, ◌∙◌}
+use Rattle.model.specs.Transfers.{transferring, priced}
 use Rattle.primitives.proofs.Stages.{handed_on}
-use Rattle.evaluate.specs.Inputs.{plan_given}
-use Rattle.transfer.proofs.Bills.{both_exist, price_few, inputs_refused, transfer_refused, charged}
+use Rattle.transfer.proofs.Bills.{inputs_refused, transfer_refused, charged}
 use Rattle.transfer.proofs.charge.Goals as goal
 
 pub returns-in_err-inputs : goal.returns-in_err-inputs
@@ -14,12 +12,6 @@ pub returns-in_err-check_transfer : goal.returns-in_err-check_transfer
 returns-in_err-check_transfer c =
     rw (handed_on _ c.from_residual-in_err-check_transfer.ensures.1)
     (transfer_refused _ _ (transferring c.args.accessed c.args.owned c.args.price) c.in_ok-inputs.ensures (sym c.check_transfer.ensures ∙ c.in_err-check_transfer.was))
-
-pub count_fetched-count-requires : goal.count_fetched-count-requires
-count_fetched-count-requires c = both_exist _ _ (sym c.check_transfer.ensures ∙ c.in_ok-check_transfer.was)
-
-pub price_elements-requires : goal.price_elements-requires
-price_elements-requires c = (c.count_fetched-count.ensures.1, price_few _ _ (sym c.check_transfer.ensures ∙ c.in_ok-check_transfer.was))
 
 pub returns : goal.returns
 returns c =

@@ -11,5 +11,5 @@ returns c =
     let at = image_at (plan_at t) t.nodes.now.keys c.args.node c.args.map t.known.node_keys_are c.requires.0 c.requires.1
     (omega (arith, t.known.keys_room)) in
     let most = image_most (plan_at t) c.args.node c.args.map in
-    let is = c.unwrap_or.ensures ∙ rw (c.position_of.ensures, c.node_key-wanted.ensures, count.0) at in
+    let is = c.unwrap_or.ensures ∙ rw (c.position_of.ensures, c.key_of-wanted.ensures, count.0) at in
     (is, omega arith)

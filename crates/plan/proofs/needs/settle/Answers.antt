@@ -5,27 +5,20 @@ use Rattle.model.proofs.Tests.{same! }
 use Rattle.primitives.proofs.Searching.{searching_found, searching_end}
 use Rattle.model.specs.Layout.{step_count}
 use Rattle.plan.specs.Plans.{plan_at}
-use Rattle.plan.proofs.Settling.{settling_starts, settling_unasked, settling_unlisted, settling_met, settling_unmet, settling_ends}
+use Rattle.plan.proofs.Settling.{settling_unlisted, settling_met, settling_unmet}
 use Rattle.plan.proofs.needs.settle.Goals as goal
 use Rattle.plan.proofs.needs.settle.Goals.{then-loop-t-test+then-conclusions-t, else-loop-t-test}
 
-pub needs-init : goal.needs-init
-needs-init c = settling_starts _ _ _
-
-pub needs-preserved-in-Nothing : goal.needs-preserved-in-Nothing
-needs-preserved-in-Nothing c = settling_unasked _ _ _ c.needs.invariant c.in-Nothing.is (omega (arith, c.statement_count-i-end.ensures))
-
 pub returns-in-Unlisted : goal.returns-in-Unlisted
-returns-in-Unlisted c =
-    rw c.unmet_need.ensures (settling_unlisted _ _ _ c.needs.invariant c.in-Unlisted.is (omega (arith, c.statement_count-i-end.ensures)))
+returns-in-Unlisted c = settling_unlisted _ _ _ c.needs.invariant c.unmet_need.ensures c.in-Unlisted.is (omega (arith, c.statement_count-i-end.ensures))
 
 pub returns-in-None : goal.returns-in-None
 returns-in-None c =
     elim c.loop-t-test.branch [
       | then-loop-t-test+then-conclusions-t w ↦ (let e = w.found-is in let f = c.in-None.is in cc)
-      | else-loop-t-test w ↦ rw c.unmet_need-in-None.ensures
-          (settling_unmet _ _ _ c.needs.invariant c.in-Conclusion.is (omega (arith, c.statement_count-i-end.ensures))
-          (let end = searching_end c.loop-t.invariant (omega (arith, c.step_count-t-end.ensures)) in omega (arith, c.step_count-t-end.ensures)))
+      | else-loop-t-test w ↦ settling_unmet _ _ _ c.needs.invariant c.in-Conclusion.is
+          (omega (arith, c.statement_count-i-end.ensures)) c.unmet_need-in-None.ensures
+          (let end = searching_end c.loop-t.invariant (omega (arith, c.step_count-t-end.ensures)) in omega (arith, c.step_count-t-end.ensures))
     ]
 
 pub needs-preserved : goal.needs-preserved
@@ -38,6 +31,3 @@ needs-preserved c =
           (searching_found c.loop-t.invariant inside (same! w.if-conclusions-t.true)) inside (omega (arith, c.statement_count-i-end.ensures))))
       | else-loop-t-test w ↦ (let e = w.found-is in let f = c.in-Some.is in cc)
     ]
-
-pub returns : goal.returns
-returns c = settling_ends _ _ _ c.needs.invariant (omega (arith, c.statement_count-i-end.ensures))

@@ -39,19 +39,19 @@ overflow_sub-boundaries c =
 
 pub overflow_add-start-then-place-boundaries : goal.overflow_add-start-then-place-boundaries
 overflow_add-start-then-place-boundaries c =
-    let known = ends c.args.s.now c.requires c.read_frame-frame.ensures (λ i. omega (arith, c.shared_slice_known-1.given i)) in
+    let known = ends c.args.s.now c.requires c.read_frame-frame.ensures (λ i. search rules) in
     omega (arith, known.start, known.end, known.near, known.short, c.if-place-boundaries.true)
 
 pub returns-then-place-boundaries : goal.returns-then-place-boundaries
 returns-then-place-boundaries c =
     let a = c.args in
-    let known = ends c.args.s.now c.requires c.read_frame-frame.ensures (λ i. omega (arith, c.shared_slice_known-1.given i)) in
+    let known = ends c.args.s.now c.requires c.read_frame-frame.ensures (λ i. search rules) in
     let inside : a.place < u16 a.s.now (boundary a.s.now a.n) = omega (arith, known.start, known.end, c.if-place-boundaries.true) in
     (c.byte_at.ensures.0 ∙ rw (known.start, body_at a.s.now a.n a.place inside), c.byte_at.ensures.1)
 
 pub returns-else-place-boundaries : goal.returns-else-place-boundaries
 returns-else-place-boundaries c =
     let a = c.args in
-    let known = ends c.args.s.now c.requires c.read_frame-frame.ensures (λ i. omega (arith, c.shared_slice_known-1.given i)) in
+    let known = ends c.args.s.now c.requires c.read_frame-frame.ensures (λ i. search rules) in
     let past : u16 a.s.now (boundary a.s.now a.n) ≤ a.place = omega (arith, known.start, known.end, c.if-place-boundaries.false) in
     (sym (body_past a.s.now a.n a.place past), search rules)

@@ -10,7 +10,7 @@ use Rattle.model.specs.declared.NodeKind.{NodeKind}
 use Rattle.subregions.proofs.NodePieces.{product}
 use Rattle.subregions.specs.Fill.{NodeSources}
 use Rattle.subregions.proofs.NodeOperators.{known_kind, unites, intersects, subtracts}
-use Rattle.subregions.proofs.NodeFill.{OperandsRead, operands_read, node_listed, few_pieces, supplied_room, supplied_done, equal_room, equal_done, combined_room, combined_done, image_room, image_done, preimage_room, preimage_done}
+use Rattle.subregions.proofs.NodeFill.{OperandsRead, node_listed, few_pieces, supplied_room, supplied_done, equal_room, equal_done, combined_room, combined_done, image_room, image_done, preimage_room, preimage_done}
 use Rattle.subregions.proofs.fill.fill_node.Goals as goal
 use Rattle.subregions.proofs.fill.fill_node.Goals.{After-part_from-left}
 
@@ -19,23 +19,25 @@ abbrev Handed : After-part_from-left → Plan → Bytes → Type 0
 Handed c P d = NodeSources P d c.args.sources.now c.args.span (length c.args.words.now) c.args.j
 
 -- its operands and its kind, as the plan has them
-read : (c : After-part_from-left) {P : Plan} {d : Bytes} → Handed c P d → OperandsRead P c.args.j c.byte_at-a.result c.byte_at-b.result
-read c h = operands_read h.sources.nodes_are c.byte_at-a.ensures.0 c.byte_at-b.ensures.0
+read : (c : After-part_from-left) {P : Plan} {d : Bytes} → Handed c P d → OperandsRead P c.args.j c.node_operands-a.result.0 c.node_operands-a.result.1
+read c {P} h =
+    let same = sym h.sources.nodes_are in
+    record { a_is = c.node_operands-a.ensures.left P same; b_is = c.node_operands-a.ensures.right P same }
 
 kind_is : (c : After-part_from-left) {P : Plan} {d : Bytes} → Handed c P d → {kind : NodeKind} → c.node_kind-kind.result ≡ kind → node_kind_at P c.args.j ≡ kind
 kind_is c {P} h told = sym (c.node_kind-kind.ensures P (sym h.sources.nodes_are)) ∙ told
 
 pub overflow_mul-a : goal.overflow_mul-a
-overflow_mul-a c = omega (arith, product c.byte_at-a.result c.args.span.count 256 16 (omega (arith, c.byte_at-a.ensures.1)) (few_pieces c.requires.sources))
+overflow_mul-a c = omega (arith, product c.node_operands-a.result.0 c.args.span.count 256 16 (omega (arith, c.node_operands-a.ensures.bytes)) (few_pieces c.requires.sources))
 
 pub overflow_mul-a-2 : goal.overflow_mul-a-2
-overflow_mul-a-2 c = omega (arith, product c.byte_at-a.result c.args.span.count 256 16 (omega (arith, c.byte_at-a.ensures.1)) (few_pieces c.requires.sources))
+overflow_mul-a-2 c = omega (arith, product c.node_operands-a.result.0 c.args.span.count 256 16 (omega (arith, c.node_operands-a.ensures.bytes)) (few_pieces c.requires.sources))
 
 pub overflow_mul-right : goal.overflow_mul-right
-overflow_mul-right c = omega (arith, product c.byte_at-b.result c.args.span.count 256 16 (omega (arith, c.byte_at-b.ensures.1)) (few_pieces c.requires.sources))
+overflow_mul-right c = omega (arith, product c.node_operands-a.result.1 c.args.span.count 256 16 (omega (arith, c.node_operands-a.ensures.bytes)) (few_pieces c.requires.sources))
 
 pub overflow_mul-right-2 : goal.overflow_mul-right-2
-overflow_mul-right-2 c = omega (arith, product c.byte_at-b.result c.args.span.count 256 16 (omega (arith, c.byte_at-b.ensures.1)) (few_pieces c.requires.sources))
+overflow_mul-right-2 c = omega (arith, product c.node_operands-a.result.1 c.args.span.count 256 16 (omega (arith, c.node_operands-a.ensures.bytes)) (few_pieces c.requires.sources))
 
 pub fill_supplied-requires : goal.fill_supplied-requires
 fill_supplied-requires c =

@@ -10,7 +10,7 @@ use Rattle.model.specs.declared.NodeKind.{NodeKind}
 use lib.Bits.{bit_or}
 use Rattle.subregions.specs.Needed.{OperandBits, NodesRead}
 use Rattle.subregions.proofs.NodeOperators.{byte_of, byte_is, known_kind}
-use Rattle.subregions.proofs.NodeFill.{OperandsRead, operands_read}
+use Rattle.subregions.proofs.NodeFill.{OperandsRead}
 use Rattle.subregions.proofs.NeededNodes.{none_bits, left_bit, both_bits}
 use Rattle.subregions.proofs.needed.operand_bits.Goals as goal
 use Rattle.subregions.proofs.needed.operand_bits.Goals.{After-node_kind}
@@ -30,18 +30,18 @@ byte : (c : After-node_kind) {P : Plan} → Reads c P → {kind : NodeKind} → 
 byte c {P} R told = byte_is P (data_of []) R.facts _ (listed c R) (kind_is c R told)
 
 -- its operands, as they are read
-read : (c : After-node_kind) {P : Plan} → Reads c P → OperandsRead P c.args.j c.byte_at.result c.byte_at-2.result
-read c R = operands_read (sym R.nodes_are) c.byte_at.ensures.0 c.byte_at-2.ensures.0
+read : (c : After-node_kind) {P : Plan} → Reads c P → OperandsRead P c.args.j c.node_operands-a.result.0 c.node_operands-a.result.1
+read c {P} R = record { a_is = c.node_operands-a.ensures.left P R.nodes_are; b_is = c.node_operands-a.ensures.right P R.nodes_are }
 
 -- the bit of its left operand, and the bits of both
-left : (c : After-node_kind) {P : Plan} → Reads c P → 4 < node_kind P c.args.j → OperandBits P c.args.j c.one_bit-a.result
+left : (c : After-node_kind) {P : Plan} → Reads c P → 4 < node_kind P c.args.j → OperandBits P c.args.j c.one_bit-left.result
 left c R many =
-    left_bit R.facts (listed c R) (omega (arith, c.requires)) (rw (read c R).a_is at c.one_bit-a.ensures) many
+    left_bit R.facts (listed c R) (omega (arith, c.requires)) (rw (read c R).a_is at c.one_bit-left.ensures) many
 
 both : (c : After-node_kind) {P : Plan} → Reads c P → 2 ≤ node_kind P c.args.j → node_kind P c.args.j ≤ 4
-    → OperandBits P c.args.j (bit_or c.one_bit-a.result c.one_bit-b.result)
+    → OperandBits P c.args.j (bit_or c.one_bit-left.result c.one_bit.result)
 both c R low high =
-    both_bits R.facts (listed c R) (omega (arith, c.requires)) (rw (read c R).a_is at c.one_bit-a.ensures) (rw (read c R).b_is at c.one_bit-b.ensures) low high
+    both_bits R.facts (listed c R) (omega (arith, c.requires)) (rw (read c R).a_is at c.one_bit-left.ensures) (rw (read c R).b_is at c.one_bit.ensures) low high
 
 pub returns-in-Supplied : goal.returns-in-Supplied
 returns-in-Supplied c P R =

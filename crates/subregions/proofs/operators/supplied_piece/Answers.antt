@@ -1,5 +1,5 @@
 -- Word by word: eight bytes, each reversed, are the elements in order. Assumes nothing.
-use Rattle.std.proofs.Common.{rules, refl, ◌≡◌, ◌∙◌, ◌+◌, ◌*◌, get_or, bit_and}
+use Rattle.std.proofs.Common.{rules, refl, ◌≡◌, ◌∙◌, ◌*◌, get_or, bit_and}
 use Rattle.model.specs.Words.{from_bits}
 use Rattle.bitsets.specs.Elements.{bytes_bits, reversed_bits}
 use Rattle.subregions.proofs.Piece.{supplied_word}
@@ -11,7 +11,7 @@ returns c =
     record {
       eight = search rules;
       word_is = λ w l.
-          let made : get_or c.from_fn.result w 0 ≡ bit_and (from_bits 64 (reversed_bits (from_bits 64 (bytes_bits a.members.now (a.from + 8 * w))))) (get_or a.masks.now w 0) =
+          let made : get_or c.from_fn.result w 0 ≡ bit_and (from_bits 64 (reversed_bits (from_bits 64 (bytes_bits a.members.now (8 * w))))) (get_or a.masks.now w 0) =
           search rules in
-          made ∙ supplied_word a.masks.now a.members.now a.from w _ _ refl refl;
+          made ∙ supplied_word a.masks.now a.members.now w _ _ refl refl;
     }

@@ -1,22 +1,13 @@
 -- Word by word in the cleared piece, from the first that has an element; the others stay 0. Assumes nothing.
 use native.Mathlib.Omega.{arith}
 use Rattle.bitsets.proofs.Elements.{between_none, empty_word}
-use Rattle.subregions.proofs.Piece.{begun_from, begun_next, begun_to}
+use Rattle.subregions.proofs.Piece.{begun_from, begun_to}
 use Rattle.subregions.proofs.operators.write_range.Goals as goal
 
 pub loop-w-init : goal.loop-w-init
 loop-w-init c =
     begun_from _ _ _ _ c.requires.room c.clear_piece.ensures _ (omega (arith, c.requires.low_inside))
     (λ k l. empty_word _ k (λ e h m. between_none _ _ e (λ p q. omega arith)))
-
--- a word that has an element is one of the piece's
-pub word_between-requires : goal.word_between-requires
-word_between-requires c = omega (arith, c.loop-w-test.true, c.requires.high_inside)
-
-pub loop-w-preserved : goal.loop-w-preserved
-loop-w-preserved c =
-    begun_next _ _ _ _ c.requires.room c.clear_piece.ensures _ _ _ c.loop-w.invariant
-    (omega (arith, c.loop-w-test.true, c.requires.high_inside)) c.word_between.ensures
 
 pub returns : goal.returns
 returns c =

@@ -1,77 +1,33 @@
 -- By the kind; the table has the regions of the operands, which are earlier nodes. Assumes nothing.
-use mathlib.Core.Path.{refl}
+use mathlib.Core.Path.{◌≡◌, sym, ◌∙◌}
 use native.Mathlib.Omega.{arith}
-use Rattle.model.specs.Tests.{◌=?◌}
-use Rattle.model.specs.Layout.{node_a, node_b}
-use Rattle.model.specs.Nodes.{node_formed_by, node_region_by, node_agrees_by}
-use Rattle.model.proofs.Tests.{both}
-use Rattle.expressions.proofs.NodeLaws.{kind_formed, kind_agrees, kind_region, two_operands, earlier_region, region_below}
+use Rattle.model.specs.Recursion.{below}
+use Rattle.primitives.proofs.OpenTests.{tests_open}
+use Rattle.model.specs.Tests.{Is}
+use Rattle.model.specs.Layout.{node_a}
+use Rattle.model.specs.Nodes.{operands_of_one_region, node_region, node_formed, node_formed_by, node_region_by, node_agrees, node_agrees_by}
+use Rattle.model.proofs.Recursion.{below_at}
+use Rattle.model.proofs.Tests.{both, less}
+use Rattle.expressions.proofs.NodeLaws.{two_operands, region_at}
 use Rattle.expressions.proofs.nodes.Declarations.region_of.Goals as goal
 
-pub returns-in-Supplied-clause-read : goal.returns-in-Supplied-clause-read
-unfolding node_region_by node_agrees_by
-returns-in-Supplied-clause-read c P j is read formed earlier =
-    let told = c.in-Supplied.is in rw (kind_agrees read told, kind_region read told, c.supplied_region.ensures.0 P is.supplied_are, read.a)
-
-pub returns-in-Equal-clause-read : goal.returns-in-Equal-clause-read
-unfolding node_region_by node_agrees_by
-returns-in-Equal-clause-read c P j is read formed earlier =
-    let told = c.in-Equal.is in rw (kind_agrees read told, kind_region read told, read.a)
-
 pub returns-in-Union-clause-read : goal.returns-in-Union-clause-read
-unfolding ◌=?◌
+unfolding node_formed node_agrees
 returns-in-Union-clause-read c P j is read formed earlier =
     let two = two_operands P c.args.node.kind j (omega arith) (omega arith) in
-    let (left, right) = both (both (rw (kind_formed read refl, two.formed) at formed)).1 in
-    rw (
-      c.then_some.ensures,
-      kind_agrees read refl,
-      two.agrees,
-      kind_region read refl,
-      two.region,
-      region_below earlier (node_a P j) left,
-      c.byte_at-left.ensures.0,
-      c.byte_at.ensures.0,
-      read.a,
-      read.b,
-      earlier_region earlier (node_a P j) left,
-      earlier_region earlier (node_b P j) right,
-    )
+    let kind : Is (node_formed_by P c.args.node.kind j) = rw read.kind (both formed).1 in
+    let (left, right) = both (rw two.formed at kind) in
+    let first = below_at 0 j (node_region P) (node_a P j) (less left) in
+    let region = region_at P j ∙ rw (← read.kind) (two.region (below 0 j (node_region P))) ∙ first ∙ sym (earlier.region _ (less left)) in
+    let agrees : node_agrees P j ≡ operands_of_one_region P j = rw (← read.kind) two.agrees in
+    rw (region, agrees, ← earlier.region _ (less left), ← earlier.region _ (less right)) (grind (arith, tests_open))
 
 pub returns-in-Image-clause-read : goal.returns-in-Image-clause-read
-unfolding node_formed_by node_region_by node_agrees_by ◌=?◌
+unfolding node_formed node_formed_by node_region_by node_agrees node_agrees_by
 returns-in-Image-clause-read c P j is read formed earlier =
-    let told = c.in-Image.is in
-    let (left, map) = both (both (rw (kind_formed read told) at formed)).1 in
-    rw (
-      c.then_some-in-Image.ensures,
-      kind_agrees read told,
-      kind_region read told,
-      c.map_source.ensures.0 P is.maps_are,
-      c.map_target.ensures.0 P is.maps_are,
-      c.byte_at-left.ensures.0,
-      read.a,
-      read.b,
-      earlier_region earlier (node_a P j) left,
-    )
+    grind (arith, tests_open, region_at, below_at)
 
 pub returns-in-Preimage-clause-read : goal.returns-in-Preimage-clause-read
-unfolding node_formed_by node_region_by node_agrees_by ◌=?◌
+unfolding node_formed node_formed_by node_region_by node_agrees node_agrees_by
 returns-in-Preimage-clause-read c P j is read formed earlier =
-    let told = c.in-Preimage.is in
-    let (left, map) = both (both (rw (kind_formed read told) at formed)).1 in
-    rw (
-      c.then_some-in-Preimage.ensures,
-      kind_agrees read told,
-      kind_region read told,
-      c.map_target-in-Preimage.ensures.0 P is.maps_are,
-      c.map_source-in-Preimage.ensures.0 P is.maps_are,
-      c.byte_at-left.ensures.0,
-      read.a,
-      read.b,
-      earlier_region earlier (node_a P j) left,
-    )
-
-pub returns-in-Unknown-clause-read : goal.returns-in-Unknown-clause-read
-unfolding node_region_by node_agrees_by
-returns-in-Unknown-clause-read c P j is read formed earlier = rw (kind_agrees read c.in-Unknown.is)
+    grind (arith, tests_open, region_at, below_at)
