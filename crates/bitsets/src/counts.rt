@@ -1,5 +1,5 @@
 // How many elements one set has and another lacks, by the one bits of their words.
-// Words of all sets and the place of one, not a subslice: C lends them so, and a member's place is counted in them.
+// A set is the words of all sets and the place of its first, as `holds` and `ones_lacking` of the definitions have it.
 ghost use Rattle.std.specs.Prelude.{◌≡◌, ◌+◌, ◌*◌, ◌≤◌, length};
 ghost use Rattle.model.specs.Counting.{sum, ones, without, ones_lacking};
 

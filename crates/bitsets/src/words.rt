@@ -1,5 +1,5 @@
 // Sets of elements in words: masks, words combined, and the words that bytes make.
-// Words of all sets and the place of one, not a subslice: C lends them so, and a member's place is counted in them.
+// A set is the words of all sets and the place of its first, as `holds` and `ones_lacking` of the definitions have it.
 ghost use Rattle.std.specs.Prelude.{◌≡◌, ◌+◌, ◌/◌, ◌^◌, ◌≤◌, ◌<◌, length, Bool, false};
 ghost use Rattle.std.specs.Int.Count.{count_trailing_zeros};
 ghost use Rattle.model.specs.Bytes.{u16};
@@ -94,7 +94,7 @@ pub fn region_masks(size: usize) -> [u64; 8]
     array::from_fn(|w| word_below(size, w))
 }
 
-// The number in two bytes, the higher one first.
+// The number in two bytes, the higher one first. Bytes are a slice and a place too: they are read at computed places.
 pub fn u16_inside(s: &[u8], at: usize) -> u16
     requires { at + 1 < length s.now }
     ensures { result ≡ u16 s.now at }
@@ -103,6 +103,7 @@ pub fn u16_inside(s: &[u8], at: usize) -> u16
 }
 
 // The eight bytes at a place as a word, the first lowest, by one read.
+#[tactic(auto, using(crate::proofs::ByteOrder::eight_word))]
 pub fn inside_bytes(s: &[u8], at: usize) -> u64
     requires { at + 8 ≤ length s.now }
     ensures { result ≡ from_bits 64 (bytes_bits s.now at) }
@@ -110,7 +111,8 @@ pub fn inside_bytes(s: &[u8], at: usize) -> u64
     u64::from_le_bytes(array::from_fn(|i| s[at + i]))
 }
 
-// The same; bytes past the end are 0.
+// The same; bytes past the end are 0, so that a place may lie there too.
+#[tactic(auto, using(crate::proofs::ByteOrder::eight_word))]
 pub fn eight_bytes(s: &[u8], at: usize) -> u64
     requires { at < 2 ^ 32 }
     ensures { result ≡ from_bits 64 (bytes_bits s.now at) }
@@ -131,8 +133,8 @@ fn exchange(x: u64, mask: u64, by: u64) -> u64
     ((x >> by) & mask) | ((x & mask) << by)
 }
 
-// The bits of each byte in reverse order. The library's `reverse_bits` and `swap_bytes` say it in less, but go bit by bit:
-// they take 16 turns of a loop where this is 17 instructions.
+// The bits of each byte in reverse order. `x.reverse_bits().swap_bytes()` says it in less, but the library's `reverse_bits`
+// is a loop of 64 turns, one for each bit; this has no loop.
 #[tactic(auto, using(crate::proofs::ByteOrder::ones_places, crate::proofs::ByteOrder::twos_places, crate::proofs::ByteOrder::fours_places, crate::proofs::ByteOrder::reversed_word))]
 pub fn reverse_bytes(x: u64) -> u64
     ensures { result ≡ from_bits 64 (reversed_bits x) }

@@ -1,5 +1,5 @@
 -- The starts of parts in a row, as a loop stores them, and that each part lies in the section that all of them fill; a map's entries there. Assumes nothing.
-use Rattle.std.proofs.Common.{ℕ, suc, ◌+◌, ◌-◌, ◌*◌, ◌/◌, ◌≤◌, ◌<◌, ◌≡◌, List, length, get_or, set, replicate, drop, sym, ◌∙◌, add-one, length-take, length-drop, get_or-take, get_or-drop, arith}
+use Rattle.std.proofs.Common.{ℕ, suc, ◌+◌, ◌-◌, ◌*◌, ◌/◌, ◌≤◌, ◌<◌, ◌≡◌, List, length, get_or, set, drop, ◌∙◌, add-one, length-take, length-drop, get_or-take, get_or-drop, arith}
 use Rattle.std.specs.List.{slice_range}
 use Rattle.model.specs.Bytes.{Bytes}
 use Rattle.model.specs.Layout.{Plan, map_count, supplied_count, source}
@@ -12,9 +12,6 @@ use Rattle.dataset.specs.Supplied.{SuppliedReady}
 use Rattle.dataset.proofs.Framing.{grows}
 
 module _ (start : ℕ → ℕ) where
-  pub none_placed : (most : ℕ) → start 0 ≡ 0 → PartsPlaced start 0 (replicate most 0) 0
-  none_placed most h = record { begin = λ k lt. absurd (omega arith); end_is = sym h }
-
   pub next_placed : (n width : ℕ) {starts : List ℕ} {end : ℕ} → n < length starts → PartsPlaced start n starts end → start (suc n) ≡ start n + width
       → PartsPlaced start (n + 1) (set starts n end) (end + width)
   next_placed n width {starts} {end} lt p h =

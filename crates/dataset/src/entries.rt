@@ -61,7 +61,7 @@ impl MapEntries<'_> {
     }
 }
 
-// The entries of one of the plan's maps.
+// The entries of one of the plan's maps. What it asks is in clauses: the layout holds no plan and no map's number.
 fn check_map(maps: &[u8], layout: &DataLayout, map: usize) -> Result<(), Refusal>
     requires ready { EntriesReady maps.now layout.now }
     requires listed { map < length maps.now / 3 }
@@ -75,7 +75,8 @@ fn check_map(maps: &[u8], layout: &DataLayout, map: usize) -> Result<(), Refusal
     entries.check(map)
 }
 
-// The entries of all maps, in order.
+// The entries of all maps, in order. A loop of its own, as each section has: one over a closure would have to say in its
+// clauses what is checked.
 #[tactic(auto, using(primitives::proofs::Scanning::scanned))]
 pub fn check_entries(maps: &[u8], layout: &DataLayout) -> Result<(), Refusal>
     requires { EntriesReady maps.now layout.now }

@@ -20,7 +20,7 @@ impl DataLayout<'_> {
     ghost use Rattle.dataset.specs.Layout.{set_of, EntriesPlaced};
     ghost use Rattle.dataset.specs.Entries.{EntriesReady, EntriesOf};
 
-    // The entries of one of the plan's maps.
+    // The entries of one of the plan's maps. What it asks is in clauses: the layout holds no plan and no map's number.
     pub fn map_entries(&self, maps: &[u8], map: usize) -> &[u8]
         requires ready { EntriesReady maps.now self.now }
         requires listed { map < length maps.now / 3 }

@@ -64,7 +64,8 @@ fn sizes_fit(sizes: &[u8]) -> bool
     sizes.chunks_exact(2).all(|size| u16_inside(size, 0) <= 512)
 }
 
-// The layout of a data set, read against the sections of a plan that declare its parts.
+// The layout of a data set, read against the sections of a plan that declare its parts: their bodies are handed to each
+// reader as slices (project's form).
 pub fn read_layout<'a>(
     regions: &[u8],
     maps: &[u8],

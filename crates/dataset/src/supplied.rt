@@ -84,7 +84,8 @@ impl SuppliedPieces<'_> {
     }
 }
 
-// Whether one of the plan's supplied partitions keeps its flags.
+// Whether one of the plan's supplied partitions keeps its flags. What it asks is in clauses: the layout holds no plan and no
+// partition's number.
 fn partition_keeps_flags(supplied: &[u8], layout: &DataLayout, partition: usize) -> bool
     requires ready { SuppliedReady supplied.now layout.now }
     requires listed { partition < length supplied.now / 2 }
@@ -102,7 +103,8 @@ fn partition_keeps_flags(supplied: &[u8], layout: &DataLayout, partition: usize)
     pieces.keep_flags()
 }
 
-// The flags of all supplied partitions, in order.
+// The flags of all supplied partitions, in order. A loop of its own, as each section has: one over a closure would have to
+// say in its clauses what is checked.
 #[tactic(auto, using(primitives::proofs::Scanning::scanned))]
 pub fn check_supplied(supplied: &[u8], layout: &DataLayout) -> Result<(), Refusal>
     requires { SuppliedReady supplied.now layout.now }

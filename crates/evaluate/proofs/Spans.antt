@@ -12,13 +12,12 @@ use Rattle.model.specs.Evaluation.{node_word, words_needed, filled_words}
 use Rattle.model.proofs.Words.{store_same}
 use Rattle.model.proofs.Fitting.{Fit, fit}
 use Rattle.subregions.specs.declared.Span.{Span}
-use Rattle.subregions.specs.declared.sources.Sources.{Sources}
-use Rattle.subregions.specs.Fill.{SpanFits, span_word, span_filled, FillSources}
+use Rattle.subregions.specs.Fill.{SpanFits, span_word, span_filled}
 use Rattle.subregions.specs.Needed.{NeededFor}
 use Rattle.subregions.proofs.AllNodes.{passed_hold, passed_length, all_filled}
 use Rattle.subregions.proofs.NeededNodes.{ALL, all_needed, all_operands}
 use Rattle.evaluate.specs.Inputs.{plan_given, data_given}
-use Rattle.evaluate.specs.Words.{SourcesOf, WantedReady, WantedFilled}
+use Rattle.evaluate.specs.Words.{WantedReady, WantedFilled}
 use Rattle.evaluate.specs.declared.inputs.Inputs.{Inputs}
 
 module _ (inputs : Inputs) where
@@ -28,26 +27,6 @@ module _ (inputs : Inputs) where
 
   pub pieces_are : inputs.layout.pieces ≡ pieces (data_given inputs)
   pieces_are = ap pieces inputs.placed.parts
-
-  pub nodes_are : inputs.reading.acceptance.nodes ≡ node_count (plan_given inputs)
-  nodes_are = ap (λ a. a.nodes) inputs.reading.counted
-
-  pub fill_sources : {read : Sources} → SourcesOf inputs read → {span : Span} {lent : ℕ} → SpanFits (plan_given inputs) (data_given inputs) span lent →
-      FillSources (plan_given inputs) inputs.«data».now read span lent
-  fill_sources of fits =
-      record {
-        facts = inputs.reading.facts;
-        limits = inputs.reading.sections.limits;
-        fits = inputs.fits;
-        span_fits = fits;
-        nodes_are = of.nodes_are;
-        node_regions_are = rw of.node_regions_are inputs.reading.regions_known;
-        sizes_are = of.sizes_are ∙ ap (λ (D : DataSet). D.sizes) inputs.placed.parts;
-        entries_are = of.entries_are ∙ ap (λ (D : DataSet). D.entries) inputs.placed.parts;
-        members_are = of.members_are ∙ ap (λ (D : DataSet). D.members) inputs.placed.parts;
-        entries_begin = rw (of.entry_starts_are, ← inputs.placed.parts) inputs.placed.entries.begin;
-        members_begin = rw (of.member_starts_are, ← inputs.placed.parts) inputs.placed.members.begin;
-      }
 
 -- so many nodes, those that are needed, and all pieces
 abbrev pub whole : ℕ → ℕ → ℕ → Span

@@ -10,10 +10,11 @@ use Rattle.model.specs.Tests.{◌≤?◌}
 use Rattle.model.specs.Bytes.{Bytes}
 use Rattle.model.specs.Outcomes.{require, ◌then◌, conclude}
 use Rattle.model.specs.Layout.{Plan, plan_of}
-use Rattle.model.specs.Verdict.{plan_check, verdict}
+use Rattle.model.specs.Verdict.{accepted, plan_check, verdict}
 use Rattle.model.specs.DataSets.{DataSet, data_of, data_check}
 use Rattle.model.specs.Evaluation.{words_needed, inputs_check, evaluation_check, evaluation, filled_words}
 use Rattle.model.specs.Promises.{EvaluationPromise}
+use Rattle.model.specs.declared.Acceptance.{Acceptance}
 use Rattle.model.specs.declared.Refusal.{Refusal}
 use Rattle.model.specs.declared.Refusal.TheVariants.{OutputTooSmall}
 use Rattle.model.proofs.Tests.{most, most!, fails, refuted}
@@ -87,11 +88,11 @@ module _ {p d : Bytes} {inputs : Inputs} (read : InputsOf p d inputs) (lent : �
       let short : (words_needed (plan_of p) (data_of d) ≤? lent) ≡ false = fails (refuted (λ m. let l = most m in absurd (omega arith))) in
       rw (read.passes, short, e)
 
-  pub words_enough : needed ≤ lent → evaluation p d lent ≡ Ok inputs.reading.acceptance
+  pub words_enough : needed ≤ lent → evaluation p d lent ≡ Ok (accepted (plan_of p))
   unfolding evaluation evaluation_check conclude ◌then◌
   words_enough enough =
       let e = needed_is in
-      rw (read.passes, required (words_needed (plan_of p) (data_of d) ≤? lent) (OutputTooSmall (words_needed (plan_of p) (data_of d))) (most! (omega arith)), read.acceptance_is)
+      rw (read.passes, required (words_needed (plan_of p) (data_of d) ≤? lent) (OutputTooSmall (words_needed (plan_of p) (data_of d))) (most! (omega arith)))
 
 pub inputs_refused : (p d : Bytes) (lent : ℕ) {r : Refusal} → inputs_check p d ≡ Err r → evaluation p d lent ≡ Err r
 unfolding evaluation evaluation_check conclude ◌then◌
@@ -102,6 +103,7 @@ module _ (p d : Bytes) (old : List ℕ) where
   pub refusal_given : {r : Refusal} → evaluation p d (length old) ≡ Err r → EvaluationPromise p d old old (Err r)
   refusal_given h = evaluation_promise p d old old _ (sym h) refl
 
-  pub words_filled : {inputs : Inputs} → InputsOf p d inputs → evaluation p d (length old) ≡ Ok inputs.reading.acceptance →
-      {new : List ℕ} → new ≡ filled_words (plan_given inputs) (data_given inputs) old → EvaluationPromise p d old new (Ok inputs.reading.acceptance)
-  words_filled read is filled = evaluation_promise p d old _ _ (sym is) (filled ∙ ap₂ (λ (P : Plan) (D : DataSet). filled_words P D old) read.plan_is (ap data_of read.data_is))
+  pub words_filled : {inputs : Inputs} → InputsOf p d inputs → evaluation p d (length old) ≡ Ok (accepted (plan_of p)) →
+      {new : List ℕ} → new ≡ filled_words (plan_given inputs) (data_given inputs) old → {a : Acceptance} → a ≡ accepted (plan_given inputs) →
+      EvaluationPromise p d old new (Ok a)
+  words_filled read is filled a = rw (a ∙ ap accepted read.plan_is) (evaluation_promise p d old _ _ (sym is) (filled ∙ ap₂ (λ (P : Plan) (D : DataSet). filled_words P D old) read.plan_is (ap data_of read.data_is)))

@@ -3,7 +3,6 @@ use Rattle.std.specs.Prelude.{◌≡◌, Result, Ok, Err}
 use Rattle.model.specs.Bytes.{Bytes}
 use Rattle.model.specs.Layout.{Plan, plan_of}
 use Rattle.model.specs.DataSets.{DataSet, data_of}
-use Rattle.model.specs.Verdict.{accepted}
 use Rattle.model.specs.Evaluation.{inputs_check}
 use Rattle.model.specs.declared.Refusal.{Refusal}
 use Rattle.layout.specs.Sections.{plan_in}
@@ -21,7 +20,6 @@ pub record InputsOf (p d : Bytes) (inputs : Inputs) : Type 0 where
   pub passes : inputs_check p d ≡ Ok tt
   pub plan_is : plan_given inputs ≡ plan_of p
   pub data_is : inputs.«data».now ≡ d
-  pub acceptance_is : inputs.reading.acceptance ≡ accepted (plan_of p)
 
 -- or is refused
 abbrev pub InputsRead : Bytes → Bytes → Result Inputs Refusal → Type 0

@@ -21,5 +21,5 @@ pub fn evaluate(plan: &[u8], data: &[u8], words: &mut [u64]) -> Result<Acceptanc
         return Err(Refusal::OutputTooSmall(needed));
     }
     fill_words(&inputs, words);
-    Ok(inputs.reading.acceptance)
+    Ok(inputs.reading.acceptance())
 }

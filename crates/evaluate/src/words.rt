@@ -30,7 +30,7 @@ pub fn sources_of<'a>(inputs: &'a Inputs<'_>) -> Sources<'a>
 pub fn words_needed(inputs: &Inputs) -> usize
     ensures { result ≡ words_needed (plan_given inputs.now) (data_given inputs.now) }
 {
-    inputs.reading.acceptance.nodes * inputs.layout.pieces * 8
+    inputs.reading.node_count() * inputs.layout.pieces * 8
 }
 
 // Fills the words of a span of the inputs.
@@ -48,7 +48,7 @@ pub fn fill_words(inputs: &Inputs, words: &mut [u64])
 {
     let pieces = inputs.layout.pieces;
     let span = Span {
-        nodes: inputs.reading.acceptance.nodes,
+        nodes: inputs.reading.node_count(),
         needed: ALL_NODES,
         pieces,
         first: 0,

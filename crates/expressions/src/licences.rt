@@ -26,7 +26,7 @@ fn concludes_subset(key: u32, x: usize, y: usize) -> bool
     key == subset_key(x, y)
 }
 
-// Whether it concludes DISJ(x).
+// Whether it concludes DISJ(x). It and COMP have a function each, as their keys have: the name says more than a parameter.
 #[tactic(auto, using(primitives::proofs::OpenTests::tests_open))]
 fn concludes_disjoint(key: u32, x: usize) -> bool
     requires { x < 256 }
@@ -35,7 +35,6 @@ fn concludes_disjoint(key: u32, x: usize) -> bool
     key == disjoint_key(x)
 }
 
-// A function each for DISJ and COMP, as for their keys: the name says more than a parameter.
 // Whether it concludes COMP(x).
 #[tactic(auto, using(primitives::proofs::OpenTests::tests_open))]
 fn concludes_complete(key: u32, x: usize) -> bool

@@ -39,7 +39,7 @@ pub struct NodeTables {
 
 // The record of node j, of bytes 0 where there is none.
 #[tactic(auto, unfolding(model::specs::Nodes::node_kind_at))]
-pub fn node_at(nodes: &[u8], j: usize) -> Node
+pub(crate) fn node_at(nodes: &[u8], j: usize) -> Node
     requires { j * 4 + 3 < 2 ^ 64 }
     ensures { (P : Plan) → P.nodes ≡ nodes.now → NodeRead P j result }
 {
@@ -52,6 +52,8 @@ pub fn node_at(nodes: &[u8], j: usize) -> Node
 }
 
 // The record of node j, which is there. Nothing is tested: by node_at, which tests four places, 48 nodes take a quarter longer.
+// A reader of its own, as steps and statements have: one over the width would take a closure with clauses for places that are
+// plain here.
 #[tactic(auto, unfolding(model::specs::Nodes::node_kind_at))]
 fn read_node(nodes: &[u8], j: usize) -> Node
     requires { j * 4 + 3 < length nodes.now }

@@ -19,7 +19,7 @@ pub struct Premises {
     pub q: u32,
 }
 
-// The record of step t, which is there.
+// The record of step t, which is there. A reader of its own, as at `nodes::read_node`.
 fn step_at(steps: &[u8], t: usize) -> Step
     requires { t * 5 + 4 < length steps.now }
     ensures { (P : Plan) → P.steps ≡ steps.now → StepRead P t result }

@@ -9,7 +9,7 @@ use model::Refusal;
 use primitives::outcomes::require;
 use primitives::records::{map_source, map_target, map_totality};
 
-// Whether a map leads from a region to a region and is partial or total.
+// Whether a map leads from a region to a region and is partial or total. Its record is there: the places are made of its number.
 #[tactic(auto, using(primitives::proofs::OpenTests::tests_open), unfolding(model::specs::Declarations::map_check))]
 fn check_map(regions: &[u8], maps: &[u8], map: usize) -> Result<(), Refusal>
     requires { map < length maps.now / 3 }
@@ -25,7 +25,8 @@ fn check_map(regions: &[u8], maps: &[u8], map: usize) -> Result<(), Refusal>
     )
 }
 
-// The records of section 2, in order.
+// The records of section 2, in order. A loop of its own, as each section has: one over a closure would have to say in its
+// clauses what is checked.
 #[tactic(auto, using(primitives::proofs::Scanning::scanned))]
 pub fn check_maps(regions: &[u8], maps: &[u8]) -> Result<(), Refusal>
     ensures { (P : Plan) → MapDeclarations P regions.now maps.now → result ≡ maps_check P }

@@ -8,7 +8,7 @@ use model::Refusal;
 use primitives::bytes::byte_at;
 use primitives::outcomes::require;
 
-// Whether a region has 1 to 8 fields.
+// Whether a region has 1 to 8 fields. Its record is there: the refusal's place is made of its number.
 #[tactic(auto, using(primitives::proofs::OpenTests::tests_open), unfolding(model::specs::Declarations::region_check))]
 fn check_region(regions: &[u8], region: usize) -> Result<(), Refusal>
     requires { region < length regions.now }
@@ -21,7 +21,8 @@ fn check_region(regions: &[u8], region: usize) -> Result<(), Refusal>
     )
 }
 
-// The records of section 1, in order.
+// The records of section 1, in order. A loop of its own, as each section has: one over a closure would have to say in its
+// clauses what is checked.
 #[tactic(auto, using(primitives::proofs::Scanning::scanned))]
 pub fn check_regions(regions: &[u8]) -> Result<(), Refusal>
     ensures { (P : Plan) → P.regions ≡ regions.now → result ≡ regions_check P }

@@ -9,7 +9,7 @@ use model::Refusal;
 use primitives::outcomes::require;
 use primitives::records::{supplied_flags, supplied_region};
 
-// Whether a supplied partition is of a region and its flags are known.
+// Whether a supplied partition is of a region and its flags are known. Its record is there: the places are made of its number.
 #[tactic(auto, using(primitives::proofs::OpenTests::tests_open), unfolding(model::specs::Declarations::supplied_check))]
 fn check_partition(regions: &[u8], supplied: &[u8], partition: usize) -> Result<(), Refusal>
     requires { partition < length supplied.now / 2 }
@@ -23,7 +23,8 @@ fn check_partition(regions: &[u8], supplied: &[u8], partition: usize) -> Result<
     )
 }
 
-// The records of section 3, in order.
+// The records of section 3, in order. A loop of its own, as each section has: one over a closure would have to say in its
+// clauses what is checked.
 #[tactic(auto, using(primitives::proofs::Scanning::scanned))]
 pub fn check_supplied(regions: &[u8], supplied: &[u8]) -> Result<(), Refusal>
     ensures { (P : Plan) → SuppliedDeclarations P regions.now supplied.now → result ≡ partitions_check P }

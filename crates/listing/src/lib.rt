@@ -71,7 +71,8 @@ pub fn print_pair<W: Write>(out: &mut W, node: u16, element: u16) -> io::Result<
     writeln!(out, "{node} {element}")
 }
 
-// Writes the lines of a node's pieces, each with a number in front.
+// Writes the lines of a node's pieces, each with a number in front. Five parameters: who prints has the words, the count of
+// pieces and the numbers apart, and a struct of them would be made anew for each call.
 #[tactic(auto, using(crate::proofs::Written::written), unfolding(crate::specs::Text::pieces_text, crate::specs::Text::piece_text, crate::specs::Text::spaced))]
 pub fn print_node<W: Write>(
     out: &mut W,

@@ -7,6 +7,7 @@ use bitsets::words::holds;
 use std::fmt;
 
 // The members of the set whose words stand from the first on, ascending, each after a space: a region has at most 512 elements.
+// A set is the words of all sets and the first of its own, as `holds` of the definitions has it.
 #[derive(Clone, Copy)]
 pub struct Members<'a> {
     pub words: &'a [u64],

@@ -1,6 +1,7 @@
 // Which loops can run in parallel, by the classes of accesses that each region and field has in a loop.
 // What is known of statements and tables (`LoopsKnown`, `PointersKnown`) is of every plan that has them: no field holds a plan.
-// `s < 64` and `Within` are clauses where a slice is handed in: s is a place in it, and no struct holds it.
+// That a statement is there is a clause: its number is a place in the section, which the struct holds or which is handed in.
+// `reduces_through_pointer` and what it calls take slices, as its caller in `plan` has them.
 ghost use Rattle.std.specs.Prelude.{◌≡◌, ◌/◌, ◌^◌, ◌<◌, ◌≤◌, length};
 ghost use Rattle.model.specs.Tests.{Is};
 ghost use Rattle.model.specs.Layout.{Plan, statement_count};

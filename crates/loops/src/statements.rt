@@ -1,7 +1,8 @@
 // A statement of section 4: its record, what it adds to the tables, and its check.
 // Regions and maps are two parameters: whoever calls holds them as two sections, and a struct of the two would be made for this
 // file alone.
-// `s < 64` is a clause: s is a place in the section that the reader is handed, and no struct holds the section.
+// `s < 64` is a clause: s is a place in the section, which a record does not hold; `kind_at` takes a slice, as its caller in `plan`
+// has it.
 // `StatementAt` is of a record and of every plan that has it as statement s: no field of the record could hold that.
 // Numbers are narrowed by `as`: the bound is proved, and `try_from` would have a case that never comes.
 ghost use Rattle.std.specs.Prelude.{◌≡◌, ℕ, ◌/◌, ◌<◌, length};
@@ -36,7 +37,8 @@ pub struct StatementEntry {
     pub centered: bool,
 }
 
-// The kind of a statement.
+// The kind of a statement. A function of its own: one with `primitives::records::node_kind` would take a trait that says of each
+// enum what its definition is.
 #[tactic(auto, unfolding(model::specs::Statements::kind))]
 pub fn kind_at(statements: &[u8], s: usize) -> StatementKind
     requires { s < 64 }
@@ -45,7 +47,8 @@ pub fn kind_at(statements: &[u8], s: usize) -> StatementKind
     StatementKind::from(entry_or(statements, s * 4, 0))
 }
 
-// The record of statement s.
+// The record of statement s, which is there. A reader of its own, as nodes and steps have: one over the width would take a closure
+// with clauses for places that are plain here.
 #[tactic(auto, unfolding(model::specs::Statements::kind))]
 pub fn statement_at(statements: &[u8], s: usize) -> Statement
     requires { s < length statements.now / 4 }
@@ -130,7 +133,8 @@ impl Statement {
         }
     }
 
-    // What the tables take of it, as statement s, from what they hold of the statements before it.
+    // What the tables take of it, as statement s, from what they hold of the statements before it. Variables and tables are two
+    // parameters: the tables outlive the pass, the variables do not.
     pub(crate) fn entry(
         self,
         maps: &[u8],

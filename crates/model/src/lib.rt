@@ -5,7 +5,7 @@ mod kinds;
 mod reports;
 
 // Why a plan or a data set is refused, and at which place. Behind each: number and word of the format paper. The places of
-// the last two are numbers of the format and no enums: callers in C read them.
+// the last two are numbers, as the table of refusals and the definitions have them.
 #[derive(Clone, Copy, Debug, PartialEq, Eq)]
 pub enum Refusal {
     Truncated(usize), // 1 Short: the section, 0 for no bytes
@@ -44,7 +44,7 @@ pub struct Charge {
 }
 
 // What an answer tells: number and place of a refusal, 0 and 0 on acceptance; the counts of an acceptance, 0 on refusal.
-// Numbers, here and in the two below, and no `Option`: C reads them.
+// A struct of numbers for each kind of answer, as the definitions have them: number 0 is an acceptance's.
 #[derive(Clone, Copy, Debug, PartialEq, Eq)]
 pub struct Report {
     pub number: usize,

@@ -1,10 +1,9 @@
 -- The verdict of a plan from its layout and its records. Assumes nothing.
-use mathlib.Core.Path.{◌≡◌, sym}
+use mathlib.Core.Path.{◌≡◌}
 use Rattle.std.specs.Prelude.{Ok, Err}
 use Rattle.model.specs.Bytes.{Bytes}
 use Rattle.model.specs.Outcomes.{◌then◌, conclude}
-use Rattle.model.specs.Layout.{Plan, plan_of, layout_check, statement_count, assignment_count}
-use Rattle.model.specs.Needs.{symbol}
+use Rattle.model.specs.Layout.{Plan, plan_of, layout_check}
 use Rattle.model.specs.Verdict.{records_check, plan_check, accepted, verdict}
 use Rattle.model.specs.declared.Refusal.{Refusal}
 use Rattle.model.proofs.Accepted.{facts}
@@ -23,8 +22,4 @@ module _ (p : Bytes) {P : Plan} (laid-out : layout_check p ≡ Ok tt) (is : P �
   unfolding verdict plan_check ◌then◌ conclude
   accepts passed = rw (is, laid-out, rw is at passed)
 
--- "assignments not one per symbol" is refused, so a plan that passes has as many symbols as assignments
-pub symbols_counted : (P : Plan) → records_check P ≡ Ok tt → symbol P (statement_count P) ≡ assignment_count P
-symbols_counted P passed = sym (facts P passed).assignment_each
-
-pub ruleset reading = (layout_refused, records_refused, accepts, symbols_counted, facts)
+pub ruleset reading = (layout_refused, records_refused, accepts, facts)

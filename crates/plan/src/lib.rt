@@ -31,11 +31,6 @@ pub fn read(plan: &[u8]) -> Result<Reading<'_>, Refusal>
     let sections = read_sections(plan)?;
     let node_regions = check_records(&sections)?;
     Ok(Reading {
-        acceptance: Acceptance {
-            symbols: sections.assignments.len(),
-            nodes: sections.nodes.len() / NODE_BYTES,
-            steps: sections.steps.len() / STEP_BYTES,
-        },
         sections,
         node_regions,
     })
@@ -46,5 +41,5 @@ pub fn check(plan: &[u8]) -> Result<Acceptance, Refusal>
     ensures { CheckPromise plan.now result }
 {
     let reading = read(plan)?;
-    Ok(reading.acceptance)
+    Ok(reading.acceptance())
 }

@@ -40,8 +40,7 @@ fn position_of(keys: &[u32], wanted: u32) -> Option<usize>
     keys.iter().position(|key| *key == wanted)
 }
 
-// The image of a node under a map. The number of nodes stands for one that is not listed, as in the definition: an Option would
-// be no plainer, since a bound that is not listed is looked for as an operand too.
+// The image of a node under a map. The number of nodes stands for one that is not listed: the definition is total, and gives it.
 fn image_node(tables: PlanTables<'_>, node: usize, map: usize) -> usize
     requires { (node < 256) × (map < 256) }
     ensures { (result ≡ image_node (plan_at tables.entry) node map) × (result ≤ 48) }
@@ -123,6 +122,7 @@ fn list_needs(tables: PlanTables<'_>, needs: &mut [Need; 128])
     ensures { NeedsListed (plan_at tables.entry) (statement_count (plan_at tables.entry)) needs.new }
 {
     let nodes = tables.node_count();
+    // Bytes: of a `usize` the loop's invariant would have to say that each is below 256, as images and keys ask.
     let mut bounds = [0u8; 64];
     let mut symbol = 0;
     for s in 0..tables.statement_count() {
@@ -156,7 +156,7 @@ fn settle(
 {
     // 0 where nothing is needed: only the places that need a step are spoken of.
     let mut concluding = [0u8; 128];
-    // By labels: the nested search is left by its label with the found step (project's form).
+    // The project's form of this search: nested, and left by its label with the step that is found.
     'needs: for i in 0..tables.statement_count() * 2 {
         let key = match needs[i] {
             Need::Nothing => continue 'needs,

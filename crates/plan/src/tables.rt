@@ -28,7 +28,7 @@ impl PlanTables<'_> {
     ghost use Rattle.model.specs.Nodes.{node_region};
     ghost use Rattle.plan.specs.Plans.{plan_at};
 
-    // How many statements there are.
+    // How many statements there are. The three counts are a line each, whose name says more than a parameter.
     pub fn statement_count(&self) -> usize
         ensures { (result ≡ statement_count (plan_at self.now)) × (result ≤ 64) }
     {

@@ -39,10 +39,6 @@ module _ (s : Bytes) where
           place = rw (add-one n) next_place;
         }
 
-  pub located_end : {boundaries : List ℕ} {at n sections : ℕ} → n ≤ sections → sections ≤ n → Located s boundaries at n
-      → record { boundaries = boundaries } ≡ frame_of sections s
-  located_end {n} {sections} most least past = let e : n ≡ sections = omega arith in rw (past.stored, e)
-
   -- how far a place is at most
   pub boundary_most : ((i : ℕ) → get_or s i 0 < 256) → (n : ℕ) → boundary s n ≤ 1 + n * 65537
   unfolding boundary

@@ -1,7 +1,8 @@
 // Cells of the records that several readers share: of a map, of a supplied partition and of a node.
 // A function for each cell, though each is a line: its name says more than a place as a parameter. Cells are `usize` with the
-// bound of a byte, since places are made of them. Flags and totality are numbers: sections 2 and 3 are refused for what is
-// above 3 and 1.
+// bound of a byte, since places are made of them. Totality and flags are numbers: section 2 is refused for a totality above 1,
+// section 3 for flags above 3.
+// The clauses that a place is below 2 ^ 64: it is made of the number, which may be any.
 ghost use Rattle.std.specs.Prelude.{◌≡◌, ◌+◌, ◌*◌, ◌^◌, ◌<◌};
 ghost use Rattle.model.specs.Tests.{◌or◌, ◌=?◌};
 ghost use Rattle.model.specs.Layout.{Plan, source, target, totality, supplied_region, supplied_flags, node_a, node_b};
@@ -58,7 +59,7 @@ pub const COMPLETE: usize = 2;
 
 const BOTH: usize = 3;
 
-// Whether flags declare a supplied partition to be that.
+// Whether flags declare a supplied partition to be that. `flag` is a number: it is compared with the byte that has it.
 #[tactic(auto, using(crate::proofs::OpenTests::tests_open))]
 pub fn is_declared(flags: usize, flag: usize) -> bool
     ensures { result ≡ (flags =? flag or flags =? 3) }
@@ -78,7 +79,7 @@ pub fn node_kind_of(number: usize) -> NodeKind
     }
 }
 
-// The kind of node j.
+// The kind of node j. One for statements is `loops::statements::kind_at`: a function each, for the reason at `node_kind_of`.
 #[tactic(auto, unfolding(model::specs::Nodes::node_kind_at))]
 pub fn node_kind(nodes: &[u8], j: usize) -> NodeKind
     requires { j * 4 + 3 < 2 ^ 64 }

@@ -1,6 +1,6 @@
 -- A node's set and a map's entries, as parts of the words and of the data set. Assumes nothing.
 use Prim.Native.Nat.{ℕ, ◌+◌, ◌*◌, ◌/◌, ◌≤◌}
-use mathlib.Core.Path.{◌≡◌, refl, subst}
+use mathlib.Core.Path.{◌≡◌, subst}
 use mathlib.Core.List.{List}
 use native.Mathlib.Omega.{arith}
 use Rattle.std.specs.List.{slice_range}
@@ -10,7 +10,7 @@ use Rattle.evaluate.specs.declared.inputs.Inputs.{Inputs}
 use Rattle.evaluate.specs.Inputs.{plan_given, data_given}
 use Rattle.provenance.specs.declared.piece.Piece.{Piece}
 use Rattle.dataset.specs.Layout.{set_of}
-use Rattle.dataset.specs.Entries.{EntriesReady, EntriesOf}
+use Rattle.dataset.specs.Entries.{EntriesOf}
 use Rattle.dataset.proofs.Starts.{in_part, part_long}
 use Rattle.provenance.specs.Members.{SetOf}
 
@@ -26,16 +26,7 @@ node_set piece node near =
           rw (word, in_part piece.words.now (node * 8) (node * 8 + 8) (e / 64) 0 (omega arith)) (piece.held.held node e near le);
     }
 
--- the inputs' layout has the maps' entries, which are the data set's
+-- the entries that the inputs' layout has are the data set's
 module _ (inputs : Inputs) where
-  pub entries_ready : EntriesReady inputs.reading.sections.maps.now inputs.layout
-  entries_ready =
-      record {
-        few_maps = inputs.reading.sections.limits.few_maps;
-        plan = plan_given inputs;
-        maps_are = refl;
-        placed = inputs.placed.entries;
-      }
-
   pub entries_given : {map : ℕ} {entries : List ℕ} → EntriesOf (plan_given inputs) (set_of inputs.layout) map entries → EntriesOf (plan_given inputs) (data_given inputs) map entries
   entries_given {map} {entries} of = subst (λ (D : DataSet). EntriesOf (plan_given inputs) D map entries) inputs.placed.parts of

@@ -1,5 +1,8 @@
 // A question about inputs: whether what it names exists, and the chain that answers it.
-// `nodes` and `elements` are two slices, and not one of pairs: the C interface lends them so.
+// `(inputs, question)` are two parameters until there are words, when `Piece` holds them: every entry point has inputs, and a
+// struct of both would put `self.now` before each in every clause.
+// `nodes` and `elements` are two slices, and not one of pairs nor a struct of the two: the C interface lends them as two, and
+// they are written as two.
 ghost use Rattle.std.specs.Prelude.{◌≡◌, ◌≤◌, length};
 ghost use Rattle.model.specs.Tests.{◌and◌, ◌≤?◌};
 ghost use Rattle.evaluate.specs.Inputs.{plan_given, data_given};
@@ -17,7 +20,7 @@ use primitives::outcomes::require;
 fn check_existence(inputs: &Inputs, question: Question) -> Result<(), Refusal>
     ensures { result ≡ existence_check (plan_given inputs.now) (data_given inputs.now) question }
 {
-    let nodes = inputs.reading.acceptance.nodes;
+    let nodes = inputs.reading.node_count();
     require(question.node < nodes, Refusal::NotFound(1))?;
     require(question.piece < inputs.layout.pieces, Refusal::NotFound(2))?;
     let size = sources_of(inputs).node_size(question.node);

@@ -24,7 +24,8 @@ const DATA_BYTES: usize = 262_150;
 // As many words as any plan needs.
 const MOST_WORDS: usize = 6144;
 
-// Prints the members of each symbol's pieces.
+// Prints the members of each symbol's pieces. Five parameters: the files' bytes, the words and the count come from three
+// places, and a struct of them would be made for this call alone.
 #[tactic(auto, using(listing::proofs::Written::written), unfolding(crate::specs::Printed::symbols_text))]
 fn print_symbols<W: Write>(
     out: &mut W,

@@ -1,8 +1,7 @@
 -- What nodes are made of: the bits of a node's operands, and a pass from the last node down. Assumes nothing.
 use Prim.Native.Nat.{ℕ, ◌-◌, ◌^◌, ◌≤◌, ◌<◌}
-use mathlib.Core.Path.{◌≡◌, sym, ◌∙◌}
+use mathlib.Core.Path.{sym, ◌∙◌}
 use mathlib.Core.Logic.{inl, inr}
-use mathlib.Core.Bool.{false}
 use native.Mathlib.Decide.{ℕ_discrete}
 use native.Mathlib.Omega.{arith}
 use lib.Bits.{bit_or}
@@ -88,22 +87,7 @@ pub record PassedDown (P : Plan) (count wanted needed j : ℕ) : Type 0 where
   pub right : (k : ℕ) → j ≤ k → k < count → Is (bit needed k) → 2 ≤ node_kind P k → node_kind P k ≤ 4 → Is (bit needed (node_b P k))
 
 module _ {P : Plan} {count wanted : ℕ} where
-  pub nothing_passed : PassedDown P count wanted wanted count
-  nothing_passed = record { wanted_needed = λ b h. h; left = λ k a b. absurd (omega arith); right = λ k a b. absurd (omega arith) }
-
   module _ {needed j : ℕ} (some : 0 < j) (so_far : PassedDown P count wanted needed j) where
-    -- a node that is not needed
-    pub passed_by : bit needed (j - 1) ≡ false → PassedDown P count wanted needed (j - 1)
-    passed_by not =
-        record {
-          wanted_needed = so_far.wanted_needed;
-          left = λ k a b h. so_far.left k (later k a h) b h;
-          right = λ k a b h. so_far.right k (later k a h) b h;
-        }
-      where
-        later : (k : ℕ) → j - 1 ≤ k → Is (bit needed k) → j ≤ k
-        later k a h = elim (ℕ_discrete k (j - 1)) [ yes is ↦ falsum (sym not ∙ rw is at h) | no z ↦ omega arith ]
-
     -- a node that is, with its operands
     module _ {operands : ℕ} (B : OperandBits P (j - 1) operands) where
       more : (b : ℕ) → Is (bit needed b) → Is (bit (bit_or needed operands) b)

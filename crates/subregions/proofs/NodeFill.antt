@@ -10,6 +10,8 @@ use native.Mathlib.Omega.{arith}
 use lib.ListN.{length, get_or, take, drop}
 use Rattle.std.proofs.lemmas.List.{length-drop, length-take-le}
 use Rattle.model.specs.Tests.{◌and◌, ◌<?◌}
+use Rattle.std.specs.Int.{w64}
+use Rattle.std.proofs.Common.{Fits}
 use Rattle.model.specs.Bytes.{Bytes}
 use Rattle.model.specs.Partitions.{Partition, contiguous}
 use Rattle.model.specs.Layout.{Plan, map_count, node_count, source, target, supplied_region, node_a, node_b}
@@ -27,9 +29,9 @@ use Rattle.bitsets.specs.Elements.{between, combined, supplied_elements}
 use Rattle.subregions.specs.declared.Span.{Span}
 use Rattle.subregions.specs.declared.sources.Sources.{Sources}
 use Rattle.subregions.specs.Pieces.{piece_words, pieces_from, supplied_pieces, equal_pieces, combined_pieces, image_pieces, preimage_pieces, SuppliedRoom, EqualRoom, CombinedRoom, ImageRoom, PreimageRoom}
-use Rattle.subregions.specs.Fill.{sets_of_words, node_filled, SizeSources, NodeSources}
+use Rattle.subregions.specs.Fill.{sets_of_words, node_filled, SizeSources, NodeSources, NodeReady}
 use Rattle.subregions.proofs.Maps.{supplied_from, entries_from, leading_from}
-use Rattle.subregions.proofs.NodePieces.{stored_behind, holds_before, holds_from}
+use Rattle.subregions.proofs.NodePieces.{stored_behind, holds_before, holds_from, product}
 use Rattle.subregions.proofs.NodeOperators.{image_is, preimage_is, share_combination, sets_are, Combines, byte_is}
 
 -- node j's operands as they are read
@@ -62,9 +64,24 @@ module _ {P : Plan} {d : Bytes} {read : Sources} {span : Span} {lent j : ℕ}
   pub size_sources : (k : ℕ) → k < node_count P → SizeSources P d read (k + 1)
   size_sources k lt = record { sizes_are = H.sources.sizes_are; node_regions_are = λ i l. H.sources.node_regions_are i (omega arith) }
 
--- the words are cut where the node's begin
-module _ {P : Plan} {d : Bytes} {read : Sources} {span : Span} {j : ℕ} (words : List ℕ) (H : NodeSources P d read span (length words) j)
-    {earlier own : List ℕ} (front : earlier ≡ take (j * span.count * 8) words) (back : own ≡ drop (j * span.count * 8) words) where
+-- where an operand's words begin is near: the piece, and its first word
+module _ {read : Sources} {span : Span} {lent j : ℕ} (ready : NodeReady read span lent j) {k : ℕ} (byte : k < 256) where
+  pub piece_near : Fits w64 (k * span.count)
+  piece_near = omega (arith, product k span.count 256 16 (omega arith) (few_pieces ready.sources))
+
+  pub word_near : Fits w64 (k * span.count * 8)
+  word_near = omega (arith, product k span.count 256 16 (omega arith) (few_pieces ready.sources))
+
+-- what a node is filled from: its sources, the words cut where its own begin, its operands and its region's size, as they are read
+pub record Filled (P : Plan) (d : Bytes) (read : Sources) (span : Span) (j : ℕ) (words earlier own : List ℕ) (a b n : ℕ) : Type 0 where
+  pub node : NodeSources P d read span (length words) j
+  pub front : earlier ≡ take (j * span.count * 8) words
+  pub back : own ≡ drop (j * span.count * 8) words
+  pub operands : OperandsRead P j a b
+  pub size_read : SizeSources P d read (j + 1) → n ≡ size (data_of d) (node_region P j)
+
+module _ {P : Plan} {d : Bytes} {read : Sources} {span : Span} {j : ℕ} {words earlier own : List ℕ} {a b n : ℕ}
+    (G : Filled P d read span j words earlier own a b n) where
   abbrev D : DataSet
   D = data_of d
 
@@ -73,17 +90,17 @@ module _ {P : Plan} {d : Bytes} {read : Sources} {span : Span} {j : ℕ} (words 
   N = span.count
 
   F : Facts P
-  F = H.sources.facts
+  F = G.node.sources.facts
 
   -- the node's words, and those of an earlier node before them
   own_room : j * N * 8 + N * 8 ≤ length words
-  own_room = omega (arith, H.sources.span_fits.enough, mul-le-mul_right N H.node_spanned, suc-mul j N)
+  own_room = omega (arith, G.node.sources.span_fits.enough, mul-le-mul_right N G.node.node_spanned, suc-mul j N)
 
   room : N * 8 ≤ length own
-  room = omega (arith, own_room, ap length back, length-drop (j * N * 8) words)
+  room = omega (arith, own_room, ap length G.back, length-drop (j * N * 8) words)
 
   earlier_length : length earlier ≡ j * N * 8
-  earlier_length = ap length front ∙ length-take-le (j * N * 8) words (omega (arith, own_room))
+  earlier_length = ap length G.front ∙ length-take-le (j * N * 8) words (omega (arith, own_room))
 
   earlier_room : (k : ℕ) → k < j → k * N * 8 + N * 8 ≤ j * N * 8
   earlier_room k h = omega (arith, mul-le-mul_right N h, suc-mul k N)
@@ -92,7 +109,7 @@ module _ {P : Plan} {d : Bytes} {read : Sources} {span : Span} {j : ℕ} (words 
   operand_there {k} h q = omega (arith, ap length q, length-drop (k * N * 8) earlier, earlier_length, earlier_room k h)
 
   size_small : (k : ℕ) → k < node_count P → size D (node_region P k) ≤ 512
-  size_small k h = region_small P D F (fitted H) k h
+  size_small k h = region_small P D F (fitted G.node) k h
 
   -- what the words hold
   abbrev sets : ℕ → Partition
@@ -102,167 +119,166 @@ module _ {P : Plan} {d : Bytes} {read : Sources} {span : Span} {j : ℕ} (words 
       → ((i e : ℕ) → i < N → e < 512 → S i e ≡ node_sets P D j sets (span.first + i) e) → earlier ++ new ≡ node_filled P D span words j
   unfolding node_filled piece_words
   done S q same =
-      stored_behind words (j * N * 8) front (N * 8) (piece_words S) own_room back q
+      stored_behind words (j * N * 8) G.front (N * 8) (piece_words S) own_room G.back q
       ∙ store_same words (j * N * 8) (N * 8) (piece_words S) (piece_words (pieces_from span.first (node_sets P D j sets)))
       (λ w l. word_same _ _ (w % 8) (λ b m. same (w / 8) (w % 8 * 64 + b) (omega arith) (omega arith)))
 
-  module _ {a b n : ℕ} (R : OperandsRead P j a b) (size_read : SizeSources P d read (j + 1) → n ≡ size D (node_region P j)) where
-    size_is : n ≡ size D (node_region P j)
-    size_is = size_read (size_sources H j (node_listed H))
+  size_is : n ≡ size D (node_region P j)
+  size_is = G.size_read (size_sources G.node j (node_listed G.node))
 
-    own_size : n ≤ 512
-    own_size = rw (size_is) (size_small j (node_listed H))
+  own_size : n ≤ 512
+  own_size = rw (size_is) (size_small j (node_listed G.node))
 
-    -- supplied
-    module _ (k : node_kind_at P j ≡ Supplied) {members : List ℕ} (from_start : members ≡ drop (get_or read.member_starts.now a 0) read.members.now) where
-      supplied_is : SuppliedNode P D j
-      supplied_is = supplied_node P D F j (node_listed H) (byte_is P D F j (node_listed H) k)
+  -- supplied
+  module _ (k : node_kind_at P j ≡ Supplied) {members : List ℕ} (from_start : members ≡ drop (get_or read.member_starts.now a 0) read.members.now) where
+    supplied_is : SuppliedNode P D j
+    supplied_is = supplied_node P D F j (node_listed G.node) (byte_is P D F j (node_listed G.node) k)
 
-      members_are : members ≡ drop (member_start P D (node_a P j)) D.members
-      members_are =
-          from_start
-          ∙ ap₂ (λ (x : ℕ) (list : List ℕ). drop x list)
-          (ap (λ (x : ℕ). get_or read.member_starts.now x 0) R.a_is ∙ H.sources.members_begin (node_a P j) supplied_is.listed) H.sources.members_are
+    members_are : members ≡ drop (member_start P D (node_a P j)) D.members
+    members_are =
+        from_start
+        ∙ ap₂ (λ (x : ℕ) (list : List ℕ). drop x list)
+        (ap (λ (x : ℕ). get_or read.member_starts.now x 0) G.operands.a_is ∙ G.node.sources.members_begin (node_a P j) supplied_is.listed) G.node.sources.members_are
 
-      pub supplied_room : SuppliedRoom own n span
-      supplied_room = record { few_pieces = few_before H; few_elements = own_size; room = room }
+    pub supplied_room : SuppliedRoom own n span
+    supplied_room = record { few_pieces = few_before G.node; few_elements = own_size; room = room }
 
-      pub supplied_done : {new : List ℕ} → new ≡ store own 0 (N * 8) (piece_words (pieces_from span.first (supplied_pieces members n)))
-          → earlier ++ new ≡ node_filled P D span words j
-      unfolding supplied_pieces supplied_elements supplied supplied_bit piece_bytes bit node_sets_by
-      supplied_done q =
-          let n-is = size_is ∙ ap (size D) supplied_is.region in
-          done _ q (λ i e l h. rw (sets_are P D j sets k, members_are, n-is)
-          (ap (λ (t : Bool). e <? size D (supplied_region P (node_a P j)) and t)
-          (supplied_from D.members (member_start P D (node_a P j)) ((span.first + i) * ((size D (supplied_region P (node_a P j)) + 7) / 8)) e)
-          ∙ same_truth (λ t. pair (less! (omega (arith, span_listed H))) t) (λ t. (both t).1)))
+    pub supplied_done : {new : List ℕ} → new ≡ store own 0 (N * 8) (piece_words (pieces_from span.first (supplied_pieces members n)))
+        → earlier ++ new ≡ node_filled P D span words j
+    unfolding supplied_pieces supplied_elements supplied supplied_bit piece_bytes bit node_sets_by
+    supplied_done q =
+        let n-is = size_is ∙ ap (size D) supplied_is.region in
+        done _ q (λ i e l h. rw (sets_are P D j sets k, members_are, n-is)
+        (ap (λ (t : Bool). e <? size D (supplied_region P (node_a P j)) and t)
+        (supplied_from D.members (member_start P D (node_a P j)) ((span.first + i) * ((size D (supplied_region P (node_a P j)) + 7) / 8)) e)
+        ∙ same_truth (λ t. pair (less! (omega (arith, span_listed G.node))) t) (λ t. (both t).1)))
 
-    -- equal
-    pub equal_room : EqualRoom own n span
-    equal_room =
+  -- equal
+  pub equal_room : EqualRoom own n span
+  equal_room =
+      record {
+        some_piece = rw G.node.sources.span_fits.pieces_are (fitted G.node).some_piece;
+        few_pieces = rw G.node.sources.span_fits.pieces_are (fitted G.node).few_pieces;
+        pieces_listed = G.node.sources.span_fits.pieces_listed;
+        few_elements = own_size;
+        room = room;
+      }
+
+  pub equal_done : node_kind_at P j ≡ Equal → {new : List ℕ} → new ≡ store own 0 (N * 8) (piece_words (pieces_from span.first (equal_pieces n span.pieces)))
+      → earlier ++ new ≡ node_filled P D span words j
+  unfolding equal_pieces between equal contiguous node_sets_by
+  equal_done k q =
+      let n-is = size_is ∙ ap (size D) (equal_node P D F j (node_listed G.node) (byte_is P D F j (node_listed G.node) k)).region in
+      done _ q (λ i e l h. rw (sets_are P D j sets k, G.node.sources.span_fits.pieces_are, n-is, add-one (span.first + i))
+      (same_truth (λ t. pair (less! (omega (arith, span_listed G.node))) t) (λ t. (both t).1)))
+
+  -- what the words hold of an earlier node, read off the words from its first on
+  words_of : (x o m i e : ℕ) {operand : List ℕ} → operand ≡ drop (x * N * 8) earlier → x ≡ o → o < j → m ≡ size D (node_region P o) → i < N
+      → (e <? m and holds operand (i * 8) e) ≡ sets o (span.first + i) e
+  unfolding sets_of_words
+  words_of x o m i e {operand} cut p before q l =
+      let small : m ≤ 512 = rw q (size_small o (omega (arith, node_listed G.node))) in
+      let place : x * N * 8 + i * 8 ≡ (o * N + (span.first + i - span.first)) * 8 = rw p (omega arith) in
+      let inside : x * N * 8 + i * 8 + 8 ≤ j * N * 8 = rw p (omega (arith, earlier_room o before)) in
+      let held : e < m → holds operand (i * 8) e ≡ holds words ((o * N + (span.first + i - span.first)) * 8) e =
+      λ h. holds_from earlier (x * N * 8) cut (i * 8) e ∙ holds_before words (j * N * 8) G.front (x * N * 8 + i * 8) e inside (omega arith) ∙ ap (λ (at : ℕ). holds words at e) place
+      in
+      same_truth
+      (λ t. pair (both t).0 (sym (held (less (both t).0)) ∙ (both t).1))
+      (λ t. pair (both t).0 (held (less (both t).0) ∙ (both t).1))
+      ∙ ap (λ (v : ℕ). e <? v and holds words ((o * N + (span.first + i - span.first)) * 8) e) q
+
+  -- union, intersection, difference
+  module _ {combination : Bool → Bool → Bool} (node : Combines P D j combination) {left right : List ℕ}
+      (at_left : left ≡ drop (a * N * 8) earlier) (at_right : right ≡ drop (b * N * 8) earlier) where
+    pub combined_room : CombinedRoom own left right N
+    combined_room =
         record {
-          some_piece = rw H.sources.span_fits.pieces_are (fitted H).some_piece;
-          few_pieces = rw H.sources.span_fits.pieces_are (fitted H).few_pieces;
-          pieces_listed = H.sources.span_fits.pieces_listed;
-          few_elements = own_size;
           room = room;
+          left_there = operand_there (rw G.operands.a_is node.left_earlier) at_left;
+          right_there = operand_there (rw G.operands.b_is node.right_earlier) at_right;
         }
 
-    pub equal_done : node_kind_at P j ≡ Equal → {new : List ℕ} → new ≡ store own 0 (N * 8) (piece_words (pieces_from span.first (equal_pieces n span.pieces)))
+    pub combined_done : {new : List ℕ} → new ≡ store own 0 (N * 8) (piece_words (combined_pieces left right combination n))
         → earlier ++ new ≡ node_filled P D span words j
-    unfolding equal_pieces between equal contiguous node_sets_by
-    equal_done k q =
-        let n-is = size_is ∙ ap (size D) (equal_node P D F j (node_listed H) (byte_is P D F j (node_listed H) k)).region in
-        done _ q (λ i e l h. rw (sets_are P D j sets k, H.sources.span_fits.pieces_are, n-is, add-one (span.first + i))
-        (same_truth (λ t. pair (less! (omega (arith, span_listed H))) t) (λ t. (both t).1)))
+    unfolding combined_pieces combined
+    combined_done q =
+        done _ q (λ i e l h. share_combination combination node.neither (e <? n) _ _
+        ∙ ap₂ combination
+        (words_of a (node_a P j) n i e at_left G.operands.a_is node.left_earlier (size_is ∙ ap (size D) node.left_region) l)
+        (words_of b (node_b P j) n i e at_right G.operands.b_is node.right_earlier (size_is ∙ ap (size D) node.right_region) l)
+        ∙ sym (node.sets sets (span.first + i) e))
 
-    -- what the words hold of an earlier node, read off the words from its first on
-    words_of : (x o m i e : ℕ) {operand : List ℕ} → operand ≡ drop (x * N * 8) earlier → x ≡ o → o < j → m ≡ size D (node_region P o) → i < N
-        → (e <? m and holds operand (i * 8) e) ≡ sets o (span.first + i) e
-    unfolding sets_of_words
-    words_of x o m i e {operand} cut p before q l =
-        let small : m ≤ 512 = rw q (size_small o (omega (arith, node_listed H))) in
-        let place : x * N * 8 + i * 8 ≡ (o * N + (span.first + i - span.first)) * 8 = rw p (omega arith) in
-        let inside : x * N * 8 + i * 8 + 8 ≤ j * N * 8 = rw p (omega (arith, earlier_room o before)) in
-        let held : e < m → holds operand (i * 8) e ≡ holds words ((o * N + (span.first + i - span.first)) * 8) e =
-        λ h. holds_from earlier (x * N * 8) cut (i * 8) e ∙ holds_before words (j * N * 8) front (x * N * 8 + i * 8) e inside (omega arith) ∙ ap (λ (at : ℕ). holds words at e) place
-        in
-        same_truth
-        (λ t. pair (both t).0 (sym (held (less (both t).0)) ∙ (both t).1))
-        (λ t. pair (both t).0 (held (less (both t).0) ∙ (both t).1))
-        ∙ ap (λ (v : ℕ). e <? v and holds words ((o * N + (span.first + i - span.first)) * 8) e) q
+  -- a map's entries from where they begin, and the size of an operand's region
+  module _ {entries : List ℕ} (from_start : entries ≡ drop (get_or read.entry_starts.now b 0) read.entries.now) where
+    map_entries : node_b P j < map_count P → entries ≡ drop (entry_start P D (node_b P j)) D.entries
+    map_entries listed =
+        from_start
+        ∙ ap₂ (λ (x : ℕ) (list : List ℕ). drop x list)
+        (ap (λ (x : ℕ). get_or read.entry_starts.now x 0) G.operands.b_is ∙ G.node.sources.entries_begin (node_b P j) listed) G.node.sources.entries_are
 
-    -- union, intersection, difference
-    module _ {combination : Bool → Bool → Bool} (node : Combines P D j combination) {left right : List ℕ}
-        (at_left : left ≡ drop (a * N * 8) earlier) (at_right : right ≡ drop (b * N * 8) earlier) where
-      pub combined_room : CombinedRoom own left right N
-      combined_room =
-          record {
-            room = room;
-            left_there = operand_there (rw R.a_is node.left_earlier) at_left;
-            right_there = operand_there (rw R.b_is node.right_earlier) at_right;
-          }
+    map_room : (listed : node_b P j < map_count P) → 2 * size D (source P (node_b P j)) ≤ length entries
+    map_room listed =
+        omega (arith, ap length (map_entries listed), length-drop (entry_start P D (node_b P j)) D.entries, entries_there P D (fitted G.node) (node_b P j) listed)
 
-      pub combined_done : {new : List ℕ} → new ≡ store own 0 (N * 8) (piece_words (combined_pieces left right combination n))
-          → earlier ++ new ≡ node_filled P D span words j
-      unfolding combined_pieces combined
-      combined_done q =
-          done _ q (λ i e l h. share_combination combination node.neither (e <? n) _ _
-          ∙ ap₂ combination
-          (words_of a (node_a P j) n i e at_left R.a_is node.left_earlier (size_is ∙ ap (size D) node.left_region) l)
-          (words_of b (node_b P j) n i e at_right R.b_is node.right_earlier (size_is ∙ ap (size D) node.right_region) l)
-          ∙ sym (node.sets sets (span.first + i) e))
+    operand_size : {m r : ℕ} → (SizeSources P d read (a + 1) → m ≡ size D (node_region P a)) → node_a P j < j → node_region P (node_a P j) ≡ r → m ≡ size D r
+    operand_size read_size before region =
+        read_size (size_sources G.node a (omega (arith, G.operands.a_is, node_listed G.node))) ∙ ap (λ (x : ℕ). size D (node_region P x)) G.operands.a_is ∙ ap (size D) region
 
-    -- a map's entries from where they begin, and the size of an operand's region
-    module _ {entries : List ℕ} (from_start : entries ≡ drop (get_or read.entry_starts.now b 0) read.entries.now) where
-      map_entries : node_b P j < map_count P → entries ≡ drop (entry_start P D (node_b P j)) D.entries
-      map_entries listed =
-          from_start
-          ∙ ap₂ (λ (x : ℕ) (list : List ℕ). drop x list)
-          (ap (λ (x : ℕ). get_or read.entry_starts.now x 0) R.b_is ∙ H.sources.entries_begin (node_b P j) listed) H.sources.entries_are
+    module _ {operand : List ℕ} (at_operand : operand ≡ drop (a * N * 8) earlier) {m : ℕ} (sized : SizeSources P d read (a + 1) → m ≡ size D (node_region P a)) where
+      -- image
+      module _ (k : node_kind_at P j ≡ Image) where
+        image_of : ImageNode P D j
+        image_of = image_node_lem P D F j (node_listed G.node) (byte_is P D F j (node_listed G.node) k)
 
-      map_room : (listed : node_b P j < map_count P) → 2 * size D (source P (node_b P j)) ≤ length entries
-      map_room listed =
-          omega (arith, ap length (map_entries listed), length-drop (entry_start P D (node_b P j)) D.entries, entries_there P D (fitted H) (node_b P j) listed)
+        image_count : m ≡ size D (source P (node_b P j))
+        image_count = operand_size sized image_of.earlier image_of.operand_region_lem
 
-      operand_size : {m r : ℕ} → (SizeSources P d read (a + 1) → m ≡ size D (node_region P a)) → node_a P j < j → node_region P (node_a P j) ≡ r → m ≡ size D r
-      operand_size read_size before region =
-          read_size (size_sources H a (omega (arith, R.a_is, node_listed H))) ∙ ap (λ (x : ℕ). size D (node_region P x)) R.a_is ∙ ap (size D) region
+        pub image_room : ImageRoom own operand entries m N
+        image_room =
+            record {
+              room = room;
+              operand_there = operand_there (rw G.operands.a_is image_of.earlier) at_operand;
+              few_elements = rw (image_count, ← image_of.operand_region_lem) (size_small (node_a P j) (omega (arith, image_of.earlier, node_listed G.node)));
+              entries_there = rw image_count (map_room image_of.map_listed);
+            }
 
-      module _ {operand : List ℕ} (at_operand : operand ≡ drop (a * N * 8) earlier) {m : ℕ} (sized : SizeSources P d read (a + 1) → m ≡ size D (node_region P a)) where
-        -- image
-        module _ (k : node_kind_at P j ≡ Image) where
-          image_of : ImageNode P D j
-          image_of = image_node_lem P D F j (node_listed H) (byte_is P D F j (node_listed H) k)
+        pub image_done : {new : List ℕ} → new ≡ store own 0 (N * 8) (piece_words (image_pieces operand entries m)) → earlier ++ new ≡ node_filled P D span words j
+        unfolding image_pieces node_sets_by
+        image_done q =
+            done _ q (λ i e l h. rw (sets_are P D j sets k, image_count, map_entries image_of.map_listed)
+            (entries_from _ D.entries _ _ e
+            ∙ image_is P D (node_b P j) (sets (node_a P j)) (span.first + i) _
+            (λ x. words_of a (node_a P j) _ i x at_operand G.operands.a_is image_of.earlier (ap (size D) (sym image_of.operand_region_lem)) l) e h))
 
-          image_count : m ≡ size D (source P (node_b P j))
-          image_count = operand_size sized image_of.earlier image_of.operand_region_lem
+      -- preimage
+      module _ (k : node_kind_at P j ≡ Preimage) where
+        preimage_of : PreimageNode P D j
+        preimage_of = preimage_node P D F j (node_listed G.node) (byte_is P D F j (node_listed G.node) k)
 
-          pub image_room : ImageRoom own operand entries m N
-          image_room =
-              record {
-                room = room;
-                operand_there = operand_there (rw R.a_is image_of.earlier) at_operand;
-                few_elements = rw (image_count, ← image_of.operand_region_lem) (size_small (node_a P j) (omega (arith, image_of.earlier, node_listed H)));
-                entries_there = rw image_count (map_room image_of.map_listed);
-              }
+        preimage_count : n ≡ size D (source P (node_b P j))
+        preimage_count = size_is ∙ ap (size D) preimage_of.region
 
-          pub image_done : {new : List ℕ} → new ≡ store own 0 (N * 8) (piece_words (image_pieces operand entries m)) → earlier ++ new ≡ node_filled P D span words j
-          unfolding image_pieces node_sets_by
-          image_done q =
-              done _ q (λ i e l h. rw (sets_are P D j sets k, image_count, map_entries image_of.map_listed)
-              (entries_from _ D.entries _ _ e
-              ∙ image_is P D (node_b P j) (sets (node_a P j)) (span.first + i) _
-              (λ x. words_of a (node_a P j) _ i x at_operand R.a_is image_of.earlier (ap (size D) (sym image_of.operand_region_lem)) l) e h))
+        preimage_size : m ≡ size D (target P (node_b P j))
+        preimage_size = operand_size sized preimage_of.earlier preimage_of.operand_region_lem
 
-        -- preimage
-        module _ (k : node_kind_at P j ≡ Preimage) where
-          preimage_of : PreimageNode P D j
-          preimage_of = preimage_node P D F j (node_listed H) (byte_is P D F j (node_listed H) k)
+        target_small : m ≤ 512
+        target_small = rw (preimage_size, ← preimage_of.operand_region_lem) (size_small (node_a P j) (omega (arith, preimage_of.earlier, node_listed G.node)))
 
-          preimage_count : n ≡ size D (source P (node_b P j))
-          preimage_count = size_is ∙ ap (size D) preimage_of.region
+        pub preimage_room : PreimageRoom own operand entries n m N
+        preimage_room =
+            record {
+              room = room;
+              operand_there = operand_there (rw G.operands.a_is preimage_of.earlier) at_operand;
+              few_elements = own_size;
+              few_targets = target_small;
+              entries_there = rw preimage_count (map_room preimage_of.map_listed);
+            }
 
-          preimage_size : m ≡ size D (target P (node_b P j))
-          preimage_size = operand_size sized preimage_of.earlier preimage_of.operand_region_lem
-
-          target_small : m ≤ 512
-          target_small = rw (preimage_size, ← preimage_of.operand_region_lem) (size_small (node_a P j) (omega (arith, preimage_of.earlier, node_listed H)))
-
-          pub preimage_room : PreimageRoom own operand entries n m N
-          preimage_room =
-              record {
-                room = room;
-                operand_there = operand_there (rw R.a_is preimage_of.earlier) at_operand;
-                few_elements = own_size;
-                few_targets = target_small;
-                entries_there = rw preimage_count (map_room preimage_of.map_listed);
-              }
-
-          pub preimage_done : {new : List ℕ} → new ≡ store own 0 (N * 8) (piece_words (preimage_pieces operand entries n m)) → earlier ++ new ≡ node_filled P D span words j
-          unfolding preimage_pieces node_sets_by
-          preimage_done q =
-              done _ q (λ i e l h. rw (sets_are P D j sets k, preimage_count, preimage_size, map_entries preimage_of.map_listed)
-              (leading_from _ D.entries _ _ _ e
-              ∙ preimage_is P D (node_b P j) (sets (node_a P j)) (span.first + i) _ (rw (← preimage_size) target_small)
-              (λ x. words_of a (node_a P j) _ i x at_operand R.a_is preimage_of.earlier (ap (size D) (sym preimage_of.operand_region_lem)) l) e))
+        pub preimage_done : {new : List ℕ} → new ≡ store own 0 (N * 8) (piece_words (preimage_pieces operand entries n m)) → earlier ++ new ≡ node_filled P D span words j
+        unfolding preimage_pieces node_sets_by
+        preimage_done q =
+            done _ q (λ i e l h. rw (sets_are P D j sets k, preimage_count, preimage_size, map_entries preimage_of.map_listed)
+            (leading_from _ D.entries _ _ _ e
+            ∙ preimage_is P D (node_b P j) (sets (node_a P j)) (span.first + i) _ (rw (← preimage_size) target_small)
+            (λ x. words_of a (node_a P j) _ i x at_operand G.operands.a_is preimage_of.earlier (ap (size D) (sym preimage_of.operand_region_lem)) l) e))

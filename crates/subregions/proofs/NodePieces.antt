@@ -3,7 +3,7 @@ use Prim.Native.Nat.{ℕ, ◌+◌, ◌-◌, ◌*◌, ◌/◌, ◌%◌, ◌≤◌
 use mathlib.Core.Path.{◌≡◌, refl, sym, ap, ap₂, ◌∙◌}
 use mathlib.Core.Bool.{Bool}
 use mathlib.Core.List.{List, ◌++◌}
-use native.Mathlib.Nat.{mul-le-mul_left, mul-le-mul_right, div-add-mod'}
+use native.Mathlib.Nat.{mul-le-mul_left, mul-le-mul_right}
 use native.Mathlib.Decide.{ℕ_discrete, dec_lt}
 use native.Mathlib.Omega.{arith}
 use lib.ListN.{length, get_or, take, drop}
@@ -54,9 +54,6 @@ module _ {old : List ℕ} {partition : Partition} {N : ℕ} where
 
 -- pieces made one after the other
 module _ {made : ℕ → List ℕ → Type 0} {old : List ℕ} where
-  pub made_none : PiecesMade made old 0 old
-  made_none = record { as_long = refl; piece = λ i l. absurd (omega arith); rest = λ k h. refl }
-
   pub made_more : {words new piece : List ℕ} {i : ℕ} → PiecesMade made old i words → i * 8 + 8 ≤ length old → made i piece → new ≡ store words (i * 8) 8 (word_at piece)
       → PiecesMade made old (i + 1) new
   made_more {words} {new} {piece} {i} h room it q =
@@ -230,7 +227,3 @@ preimage_made i {operand} {entries} {masks} {table} {elements} {size} few m t ma
 -- a bound of a product
 pub product : (a b x y : ℕ) → a ≤ x → b ≤ y → a * b ≤ x * y
 product a b x y h k = omega (arith, mul-le-mul_right b h, mul-le-mul_left x k)
-
--- where a piece of an equal partition starts, no later than the region's end
-pub equal_inside : (size pieces i : ℕ) → i ≤ pieces → size / pieces * i + min i (size % pieces) ≤ size
-equal_inside size pieces i h = omega (arith, mul-le-mul_left (size / pieces) h, div-add-mod' size pieces)

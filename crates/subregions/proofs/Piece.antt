@@ -9,8 +9,7 @@ use lib.Bits.{bit_and, bit_or, and_le_l, or_lt}
 use lib.ListN.{length, get_or, set, take, drop, replicate, length-set, length-replicate, get_or-replicate}
 use borrow.Rule.Slice.PartMut.{put_mid}
 use Rattle.std.proofs.lemmas.List.{length-append, length-drop, length-take, length-take-le, get_or_append_left, get_or-append_right, get_or-take, get_or-drop}
-use lib.Seq.{get_or-set_same, get_or-set_other}
-use native.Mathlib.Decide.{ℕ_discrete, dec_lt}
+use native.Mathlib.Decide.{dec_lt}
 use Rattle.model.specs.Tests.{◌and◌, ◌or◌, ◌=?◌}
 use Rattle.model.specs.Bytes.{byte}
 use Rattle.model.specs.Words.{bit, holds, from_bits, word, store}
@@ -19,7 +18,7 @@ use Rattle.bitsets.specs.Elements.{PieceOf, combined_bits, combined, masked, sup
 use Rattle.subregions.specs.Operators.{no_word, SetOf, OperandSet}
 use Rattle.primitives.proofs.Bits.{and_swap, bit-bit_and}
 use Rattle.bitsets.proofs.Elements.{added}
-use Rattle.primitives.proofs.Filling.{entry_next, entry_changed}
+use Rattle.primitives.proofs.Filling.{entry_changed}
 
 -- so many of a piece's words written
 pub record Written (old : List ℕ) (at : ℕ) (value : ℕ → ℕ) (new : List ℕ) (w : ℕ) : Type 0 where
@@ -39,9 +38,6 @@ module _ (old : List ℕ) (at : ℕ) (value : ℕ → ℕ) where
         words_are = ap₂ (λ (list : List ℕ) (x : ℕ). set list (at + w) x) h.words_are e ∙ store_next old at w value;
         as_long = length-set new (at + w) v ∙ h.as_long;
       }
-
-  pub written_all : (new : List ℕ) (w : ℕ) → Written old at value new w → 8 ≤ w → new ≡ store old at 8 value
-  written_all new w h l = let all : w ≡ 8 = omega arith in h.words_are ∙ ap (λ (n : ℕ). store old at n value) all
 
 -- eight words of 0 put in
 pub cleared : (old part : List ℕ) (at k : ℕ) → at + 8 ≤ length old → k ≡ 8 → part ≡ replicate 8 0 → put_mid at k old part ≡ store old at 8 no_word
@@ -76,24 +72,6 @@ pub record Made (elements : ℕ → Bool) (piece : List ℕ) (w : ℕ) : Type 0 
   pub rest : (k : ℕ) → w ≤ k → k < 8 → get_or piece k 0 ≡ 0
 
 module _ (elements : ℕ → Bool) where
-  pub made_none : Made elements (replicate 8 0) 0
-  made_none =
-      record {
-        few = omega arith;
-        eight = length-replicate {A = ℕ} 8 0;
-        word_is = λ k l. absurd (omega arith);
-        rest = λ k l m. get_or-replicate {A = ℕ} 8 k 0 0 m;
-      }
-
-  pub made_next : (piece : List ℕ) (w v : ℕ) → Made elements piece w → w < 8 → v ≡ word elements w → Made elements (set piece w v) (w + 1)
-  made_next piece w v h l e =
-      record {
-        few = omega arith;
-        eight = length-set piece w v ∙ h.eight;
-        word_is = entry_next 0 (λ k x. x ≡ word elements k) piece w v (omega (arith, h.eight)) h.word_is e;
-        rest = λ k m r. get_or-set_other piece w k v 0 (λ q. absurd (omega arith)) ∙ h.rest k (omega arith) r;
-      }
-
   -- the words that are left have no element
   pub made_to : (piece : List ℕ) (w : ℕ) → Made elements piece w → ((k : ℕ) → w ≤ k → k < 8 → 0 ≡ word elements k) → PieceOf elements piece
   made_to piece w h left = record { eight = omega (arith, h.eight); word_is = λ k l. go k l (dec_lt k w) }
@@ -127,20 +105,6 @@ module _ (base old : List ℕ) (at : ℕ) (elements : ℕ → Bool) (room : at +
 
   as_base : length old ≡ length base
   as_base = ap length cleared ∙ store_length base at 8 no_word
-
-  pub begun_next : (new : List ℕ) (w v : ℕ) → Begun old at elements new w → w < 8 → v ≡ word elements w → Begun old at elements (set new (at + w) v) (w + 1)
-  begun_next new w v h l e =
-      record {
-        few = omega arith;
-        as_long = length-set new (at + w) v ∙ h.as_long;
-        word_is = λ k m. go k m (ℕ_discrete k w);
-        rest = λ k m r. get_or-set_other new (at + w) (at + k) v 0 (λ q. absurd (omega arith)) ∙ h.rest k (omega arith) r;
-        outside = λ i o. get_or-set_other new (at + w) i v 0 (λ q. o (omega arith) (omega arith)) ∙ h.outside i o;
-      }
-    where
-      go : (k : ℕ) → k < w + 1 → Dec (k ≡ w) → get_or (set new (at + w) v) (at + k) 0 ≡ word elements k
-      go k m (yes q) = rw q (get_or-set_same new (at + w) v 0 (omega (arith, h.as_long, as_base)) ∙ e)
-      go k m (no q) = get_or-set_other new (at + w) (at + k) v 0 (λ s. q (omega arith)) ∙ h.word_is k (omega arith)
 
   -- the words that are left have no element
   pub begun_to : (new : List ℕ) (w : ℕ) → Begun old at elements new w → ((k : ℕ) → w ≤ k → k < 8 → 0 ≡ word elements k) → new ≡ store base at 8 (word elements)

@@ -32,7 +32,8 @@ fn operand_bits(nodes: &[u8], j: usize) -> u64
 }
 
 // The wanted nodes of the first `count`, and all that they are made of: operands are earlier nodes, so that one pass from
-// the last down finds them. By number, since it is a node's bit and says where its record is.
+// the last down finds them. By number, since it is a node's bit and says where its record is; and `count` of them, since
+// the nodes behind are not asked.
 pub fn needed_nodes(nodes: &[u8], count: usize, wanted: u64) -> u64
     requires { count ≤ 48 }
     ensures { (P : Plan) → NodesRead P nodes.now count → NeededFor P count wanted result }

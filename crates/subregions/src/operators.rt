@@ -2,6 +2,8 @@
 // A piece that is written is a place in all words: after `first_chunk_mut().unwrap()` or a loop over `chunks_exact_mut(8)`
 // (both tried) a proof knows how many words there are, and not which. One that is read is a place too, as in bitsets: one
 // place serves both operands, where slices would say it twice.
+// `table` and `set` are no struct: the table is made once for a node and the set once for a piece, so that a struct of both
+// would be made anew for each piece.
 ghost use Rattle.std.specs.Prelude.{◌≡◌, ◌+◌, ◌*◌, ◌^◌, ◌≤◌, ◌<◌, min, length};
 ghost use Rattle.model.specs.Bytes.{u16};
 ghost use Rattle.model.specs.Words as Words;
@@ -48,7 +50,7 @@ pub fn write_range(words: &mut [u64], at: usize, low: usize, high: usize)
     }
 }
 
-// Eight of a piece's bytes, which may all be known to be there: that is tested once for a piece, and not for each word.
+// Eight of a piece's bytes; `inside`, where the piece's bytes are all there: tested once for a piece, not for each word.
 fn piece_bytes(members: &[u8], at: usize, inside: bool) -> u64
     requires { PieceBytesRoom members.now at inside }
     ensures { result ≡ from_bits 64 (bytes_bits members.now at) }
@@ -90,7 +92,7 @@ fn target(entries: &[u8], at: usize) -> u16
     u16_inside(entries, at).min(512)
 }
 
-// The elements that a map's first `count` entries lead to; those of later maps may stand behind them.
+// The elements that a map's first `count` entries lead to; how many is asked, since those of later maps may stand behind them.
 pub fn targets(entries: &[u8], count: usize) -> [u16; 512]
     requires { (count ≤ 512) × (2 * count ≤ length entries.now) }
     ensures { TargetsTable entries.now count result }

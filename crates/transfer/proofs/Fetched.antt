@@ -3,9 +3,7 @@ use Prim.Native.Nat.{ℕ, ◌+◌, ◌*◌, ◌≤◌, ◌<◌}
 use mathlib.Core.Path.{◌≡◌, ap₂, ◌∙◌}
 use mathlib.Core.Logic.{◌⊎◌, inl, inr}
 use mathlib.Core.List.{List}
-use native.Mathlib.Nat.{mul-le-mul_right, suc-mul}
 use native.Mathlib.Omega.{arith}
-use lib.ListN.{length}
 use Rattle.model.specs.DataSets.{pieces}
 use Rattle.model.specs.Membership.{member}
 use lib.Bits.{bit_or}
@@ -35,12 +33,6 @@ module _ {inputs : Inputs} {t : Transfer} {nodes lent : ℕ}
         accessed_exists = omega (arith, ready.accessed_among, ready.room.nodes_listed);
         owned_exists = omega (arith, ready.owned_among, ready.room.nodes_listed);
       }
-
-  -- the words of a node among the first
-  pub node_room : (j : ℕ) → j < nodes → j * N * 8 + N * 8 ≤ length words
-  node_room j l =
-      let enough : nodes * N * 8 ≤ lent = rw counted ready.room.enough in
-      omega (arith, filled.room, mul-le-mul_right N l, suc-mul j N)
 
   few_nodes : nodes ≤ 48
   few_nodes = omega (arith, ready.room.nodes_listed, inputs.reading.sections.limits.few_nodes)

@@ -1,4 +1,6 @@
 // A transfer over accepted inputs: whether there is a charge for it, and the price of what is fetched.
+// `(inputs, transfer)` are two parameters: every entry point has inputs, and a struct of both, for this crate alone, would put
+// `self.now` before each in every clause.
 ghost use Rattle.std.specs.Prelude.{◌≡◌, ◌≤◌};
 ghost use Rattle.model.specs.Transfers.{transfer_check, priced};
 ghost use Rattle.evaluate.specs.Inputs.{plan_given};
@@ -13,7 +15,7 @@ pub fn check_transfer(inputs: &Inputs, transfer: Transfer) -> Result<(), Refusal
     ensures { result ≡ transfer_check (plan_given inputs.now) transfer }
 {
     let reading = &inputs.reading;
-    let nodes = reading.acceptance.nodes;
+    let nodes = reading.node_count();
     if transfer.accessed >= nodes || transfer.owned >= nodes {
         return Err(Refusal::InvalidCharge(1));
     }

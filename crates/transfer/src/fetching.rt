@@ -1,4 +1,4 @@
-// The elements that are fetched, counted in the words of the two nodes.
+// The elements that are fetched, counted in the words of the two nodes. `(inputs, transfer)` are two parameters, as in bill.rt.
 ghost use Rattle.std.specs.Prelude.{◌≡◌, ◌≤◌, length};
 ghost use Rattle.model.specs.Transfers.{transfer_count};
 ghost use Rattle.model.specs.Fetches.{BothExist};

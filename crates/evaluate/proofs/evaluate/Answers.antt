@@ -12,4 +12,4 @@ returns-then-words-needed c = refusal_given _ _ _ (words_lacking c.in_ok-inputs.
 
 pub returns : goal.returns
 returns c =
-    words_filled _ _ _ c.in_ok-inputs.ensures (words_enough c.in_ok-inputs.ensures _ c.words_needed-needed.ensures c.if-words-needed.false) c.fill_words.ensures
+    words_filled _ _ _ c.in_ok-inputs.ensures (words_enough c.in_ok-inputs.ensures _ c.words_needed-needed.ensures c.if-words-needed.false) c.fill_words.ensures c.acceptance.ensures

@@ -8,4 +8,4 @@ pub returns-in_err-reading : goal.returns-in_err-reading
 returns-in_err-reading c = check_promise _ _ (handed_on _ c.from_residual.ensures.1 ∙ sym c.in_err-reading.ensures)
 
 pub returns : goal.returns
-returns c = check_promise _ _ (sym c.in_ok-reading.ensures.accepts)
+returns c = check_promise _ _ (rw c.acceptance.ensures (sym c.in_ok-reading.ensures.accepts))

@@ -1,7 +1,6 @@
 -- Stage by stage: the first refusal is handed on, and after the last all is known (Stages). Assumes nothing.
-use mathlib.Core.Path.{◌≡◌, refl, sym, ap, ◌∙◌}
+use mathlib.Core.Path.{◌≡◌, refl, sym, ◌∙◌}
 use Rattle.std.specs.Prelude.{Ok}
-use Rattle.model.specs.Verdict.{accepted}
 use Rattle.primitives.proofs.Stages.{handed_on}
 use Rattle.layout.specs.Sections.{plan_in}
 use Rattle.dataset.specs.Layout.{set_of, LaidOut}
@@ -49,22 +48,21 @@ check_supplied-requires c =
     }
 
 -- the entries, once they passed
-entries_pass : (c : In_ok-check_entries) → all_entries (plan_in c.in_ok-reading.reading.sections) (set_of c.in_ok-layout.layout) ≡ Ok tt
-entries_pass c =
-    let l = c.in_ok-layout.ensures _ (record { regions_are = refl; maps_are = refl; supplied_are = refl }) in
-    sym (c.check_entries.ensures _ refl l.placed.entries) ∙ c.in_ok-check_entries.was
+entries_pass : (c : In_ok-check_entries) → LaidOut (plan_in c.in_ok-reading.reading.sections) c.args.«data».now c.in_ok-layout.layout
+    → all_entries (plan_in c.in_ok-reading.reading.sections) (set_of c.in_ok-layout.layout) ≡ Ok tt
+entries_pass c l = sym (c.check_entries.ensures _ refl l.placed.entries) ∙ c.in_ok-check_entries.was
 
 pub returns-in_err-check_supplied : goal.returns-in_err-check_supplied
 returns-in_err-check_supplied c =
     let l = laid (goal.at.returns-in_err-check_supplied c).In_ok-layout in
-    let e = entries_pass (goal.at.returns-in_err-check_supplied c).In_ok-check_entries in
+    let e = entries_pass (goal.at.returns-in_err-check_supplied c).In_ok-check_entries l in
     rw (handed_on _ c.from_residual-in_err-check_supplied.ensures.1)
     (supplied_decides _ c.in_ok-reading.ensures l e ∙ sym (c.check_supplied.ensures _ refl l.placed.members) ∙ c.in_err-check_supplied.was)
 
 pub invariant_of-result : goal.invariant_of-result
 invariant_of-result c =
     let l = laid (goal.at.invariant_of-result c).In_ok-layout in
-    let e = entries_pass (goal.at.invariant_of-result c).In_ok-check_entries in
+    let e = entries_pass (goal.at.invariant_of-result c).In_ok-check_entries l in
     record {
       fits = data_fits _ c.in_ok-reading.ensures l e (sym (c.check_supplied.ensures _ refl l.placed.members) ∙ c.in_ok-check_supplied.was);
       few_pieces = l.placed.few_pieces;
@@ -74,11 +72,10 @@ invariant_of-result c =
 pub returns : goal.returns
 returns c =
     let l = laid (goal.at.returns c).In_ok-layout in
-    let e = entries_pass (goal.at.returns c).In_ok-check_entries in
+    let e = entries_pass (goal.at.returns c).In_ok-check_entries l in
     let plan_is = c.in_ok-reading.ensures.sections_are in
     record {
       passes = inputs_pass _ c.in_ok-reading.ensures l e (sym (c.check_supplied.ensures _ refl l.placed.members) ∙ c.in_ok-check_supplied.was);
       plan_is = plan_is;
       data_is = refl;
-      acceptance_is = c.in_ok-reading.reading.counted ∙ ap accepted plan_is;
     }

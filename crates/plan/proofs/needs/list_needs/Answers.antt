@@ -1,6 +1,6 @@
 -- The pass keeps the bounds and the needs of the statements before s in their tables (NeedTables). Assumes nothing.
 use Rattle.std.proofs.Common.{◌≡◌, ◌<◌, ◌∙◌, get_or, take, arith, rules}
-use Rattle.model.specs.Layout.{statement_count, node_count}
+use Rattle.model.specs.Layout.{node_count}
 use Rattle.model.specs.Statements.{operand_definition}
 use Rattle.model.specs.Needs.{symbol_node, operand_bound}
 use Rattle.plan.specs.Plans.{plan_at}
@@ -30,8 +30,3 @@ loop-s-preserved c =
     (c.second_need.ensures ∙ rw (c.needs_disjoint.ensures, node))
     (omega (arith, node, c.assigned-node.ensures.1))
     after.0 after.1
-
-pub returns : goal.returns
-returns c =
-    let all : statement_count (plan_at c.args.tables) ≡ c.loop-s.s = omega (arith, c.statement_count-s-end.ensures) in
-    rw all c.loop-s.invariant.needs_are

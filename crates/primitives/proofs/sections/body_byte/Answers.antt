@@ -16,7 +16,6 @@ record Ends (s : Bytes) (frame : Frame) (n : ℕ) : Type 0 where
   pub start : get_or frame.boundaries n 0 ≡ boundary s n
   pub end : get_or frame.boundaries (n + 1) 0 ≡ boundary s n + 2 + u16 s (boundary s n)
   pub near : boundary s n ≤ 1 + n * 65537
-  pub short : u16 s (boundary s n) < 65536
 
 ends : (s : Bytes) {frame : Frame} {n : ℕ} → n < 8 → frame ≡ frame_of (n + 1) s → ((i : ℕ) → get_or s i 0 < 256) → Ends s frame n
 ends s {frame} {n} few e bytes =
@@ -24,7 +23,6 @@ ends s {frame} {n} few e bytes =
       start = rw e (frame_at s (n + 1) n (omega arith) (omega arith));
       end = rw (e, frame_at s (n + 1) (n + 1) (omega arith) (omega arith), add-one n) (boundary_next s n);
       near = boundary_most s bytes n;
-      short = omega (arith, bytes (boundary s n), bytes (boundary s n + 1));
     }
 
 pub overflow_add-start : goal.overflow_add-start
@@ -36,11 +34,6 @@ pub overflow_sub-boundaries : goal.overflow_sub-boundaries
 overflow_sub-boundaries c =
     let known = ends c.args.s.now c.requires c.read_frame-frame.ensures (λ i. omega (arith, c.type_inv.s i)) in
     omega (arith, known.start, known.end)
-
-pub overflow_add-start-then-place-boundaries : goal.overflow_add-start-then-place-boundaries
-overflow_add-start-then-place-boundaries c =
-    let known = ends c.args.s.now c.requires c.read_frame-frame.ensures (λ i. search rules) in
-    omega (arith, known.start, known.end, known.near, known.short, c.if-place-boundaries.true)
 
 pub returns-then-place-boundaries : goal.returns-then-place-boundaries
 returns-then-place-boundaries c =

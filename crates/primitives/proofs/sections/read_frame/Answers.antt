@@ -1,6 +1,6 @@
 -- After each section the places so far are stored (Bodies). Assumes nothing.
 use native.Mathlib.Omega.{arith}
-use Rattle.primitives.proofs.Bodies.{located_start, located_next, located_end, boundary_most}
+use Rattle.primitives.proofs.Bodies.{located_start, located_next, boundary_most}
 use Rattle.primitives.proofs.sections.read_frame.Goals as goal
 
 pub loop-n-init : goal.loop-n-init
@@ -25,6 +25,3 @@ overflow_add-at-in-loop-n c =
 
 pub loop-n-preserved : goal.loop-n-preserved
 loop-n-preserved c = located_next _ c.loop-n.invariant c.u16_at.ensures.0
-
-pub returns : goal.returns
-returns c = let l = c.loop-n in located_end _ (omega arith) (omega arith) l.invariant

@@ -24,17 +24,11 @@ between {s} {frame} {n} known =
     let e = end-at known in
     (omega (arith, boundary_next s n), omega (arith, known.inside (suc n) (omega arith)))
 
-pub overflow_add-start : goal.overflow_add-start
-overflow_add-start c = omega (arith, between c.requires)
-
 pub slice_bounds-result-count : goal.slice_bounds-result-count
 slice_bounds-result-count c = omega (arith, between c.requires)
 
 pub slice_bounds-result-start : goal.slice_bounds-result-start
 slice_bounds-result-start c = omega (arith, between c.requires)
-
-pub slice_bounds-result-end : goal.slice_bounds-result-end
-slice_bounds-result-end c = omega (arith, between c.requires)
 
 pub returns : goal.returns
 returns c = let known = c.requires in body_between _ c.args.n (start-at known) (end-at known)

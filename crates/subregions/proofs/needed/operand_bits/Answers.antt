@@ -33,57 +33,42 @@ byte c {P} R told = byte_is P (data_of []) R.facts _ (listed c R) (kind_is c R t
 read : (c : After-node_kind) {P : Plan} → Reads c P → OperandsRead P c.args.j c.node_operands-a.result.0 c.node_operands-a.result.1
 read c {P} R = record { a_is = c.node_operands-a.ensures.left P R.nodes_are; b_is = c.node_operands-a.ensures.right P R.nodes_are }
 
--- the bit of its left operand, and the bits of both
-left : (c : After-node_kind) {P : Plan} → Reads c P → 4 < node_kind P c.args.j → OperandBits P c.args.j c.one_bit-left.result
-left c R many =
-    left_bit R.facts (listed c R) (omega (arith, c.requires)) (rw (read c R).a_is at c.one_bit-left.ensures) many
+-- no bit, the bit of its left operand, and the bits of both
+none : (c : After-node_kind) {P : Plan} → Reads c P → {kind : NodeKind} → c.node_kind.result ≡ kind → byte_of kind < 2 → OperandBits P c.args.j 0
+none c R told few = let k = byte c R told in none_bits R.facts (listed c R) (omega (arith, few))
 
-both : (c : After-node_kind) {P : Plan} → Reads c P → 2 ≤ node_kind P c.args.j → node_kind P c.args.j ≤ 4
+left : (c : After-node_kind) {P : Plan} → Reads c P → {kind : NodeKind} → c.node_kind.result ≡ kind → 4 < byte_of kind → OperandBits P c.args.j c.one_bit-left.result
+left c R told many =
+    let k = byte c R told in
+    left_bit R.facts (listed c R) (omega (arith, c.requires)) (rw (read c R).a_is at c.one_bit-left.ensures) (omega (arith, many))
+
+both : (c : After-node_kind) {P : Plan} → Reads c P → {kind : NodeKind} → c.node_kind.result ≡ kind → 2 ≤ byte_of kind → byte_of kind ≤ 4
     → OperandBits P c.args.j (bit_or c.one_bit-left.result c.one_bit.result)
-both c R low high =
-    both_bits R.facts (listed c R) (omega (arith, c.requires)) (rw (read c R).a_is at c.one_bit-left.ensures) (rw (read c R).b_is at c.one_bit.ensures) low high
+both c R told low high =
+    let k = byte c R told in
+    both_bits R.facts (listed c R) (omega (arith, c.requires)) (rw (read c R).a_is at c.one_bit-left.ensures) (rw (read c R).b_is at c.one_bit.ensures)
+    (omega (arith, low)) (omega (arith, high))
 
 pub returns-in-Supplied : goal.returns-in-Supplied
-returns-in-Supplied c P R =
-    let x = (goal.at.returns-in-Supplied c).After-node_kind in
-    let k = byte x R c.in-Supplied.is in
-    none_bits R.facts (listed x R) (omega arith)
+returns-in-Supplied c P R = none (goal.at.returns-in-Supplied c).After-node_kind R c.in-Supplied.is (omega arith)
 
 pub returns-in-Equal : goal.returns-in-Equal
-returns-in-Equal c P R =
-    let x = (goal.at.returns-in-Equal c).After-node_kind in
-    let k = byte x R c.in-Equal.is in
-    none_bits R.facts (listed x R) (omega arith)
+returns-in-Equal c P R = none (goal.at.returns-in-Equal c).After-node_kind R c.in-Equal.is (omega arith)
 
 pub returns-in-Union : goal.returns-in-Union
-returns-in-Union c P R =
-    let x = (goal.at.returns-in-Union c).After-node_kind in
-    let k = byte x R c.in-Union.is in
-    both x R (omega arith) (omega arith)
+returns-in-Union c P R = both (goal.at.returns-in-Union c).After-node_kind R c.in-Union.is (omega arith) (omega arith)
 
 pub returns-in-Intersection : goal.returns-in-Intersection
-returns-in-Intersection c P R =
-    let x = (goal.at.returns-in-Intersection c).After-node_kind in
-    let k = byte x R c.in-Intersection.is in
-    both x R (omega arith) (omega arith)
+returns-in-Intersection c P R = both (goal.at.returns-in-Intersection c).After-node_kind R c.in-Intersection.is (omega arith) (omega arith)
 
 pub returns-in-Difference : goal.returns-in-Difference
-returns-in-Difference c P R =
-    let x = (goal.at.returns-in-Difference c).After-node_kind in
-    let k = byte x R c.in-Difference.is in
-    both x R (omega arith) (omega arith)
+returns-in-Difference c P R = both (goal.at.returns-in-Difference c).After-node_kind R c.in-Difference.is (omega arith) (omega arith)
 
 pub returns-in-Image : goal.returns-in-Image
-returns-in-Image c P R =
-    let x = (goal.at.returns-in-Image c).After-node_kind in
-    let k = byte x R c.in-Image.is in
-    left x R (omega arith)
+returns-in-Image c P R = left (goal.at.returns-in-Image c).After-node_kind R c.in-Image.is (omega arith)
 
 pub returns-in-Preimage : goal.returns-in-Preimage
-returns-in-Preimage c P R =
-    let x = (goal.at.returns-in-Preimage c).After-node_kind in
-    let k = byte x R c.in-Preimage.is in
-    left x R (omega arith)
+returns-in-Preimage c P R = left (goal.at.returns-in-Preimage c).After-node_kind R c.in-Preimage.is (omega arith)
 
 pub returns-in-Unknown : goal.returns-in-Unknown
 returns-in-Unknown c P R =
