@@ -6,4 +6,3 @@ pub mod NeedTables
 pub mod NeedsMet
 pub mod Stages
 pub mod Verdict
-pub mod Counted

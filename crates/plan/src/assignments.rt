@@ -24,7 +24,7 @@ fn has_symbol(tables: PlanTables<'_>, s: usize) -> bool
 }
 
 // The number of the next symbol after statement s, given that of the next before. A pass over the statements carries the number
-// from turn to turn: symbol_of counts all before its statement.
+// from turn to turn.
 #[tactic(auto, using(crate::proofs::Symbols::symbols_next))]
 pub fn next_symbol(tables: PlanTables<'_>, s: usize, symbol: usize) -> usize
     requires { SymbolAt (plan_at tables) symbol s }
@@ -37,13 +37,18 @@ pub fn next_symbol(tables: PlanTables<'_>, s: usize, symbol: usize) -> usize
     }
 }
 
-// How many symbols stand before statement s, and so the number of its own.
+// How many symbols stand before statement s, and so the number of its own. By the step of the passes: by `filter` and `count` it
+// would need a law of some fifty lines about the library's iterators.
 #[tactic(auto, using(crate::proofs::Symbols::symbols_next))]
 pub fn symbol_of(tables: PlanTables<'_>, s: usize) -> usize
     requires { s ≤ statement_count (plan_at tables) }
     ensures { result ≡ Needs.symbol (plan_at tables.entry) s }
 {
-    (0..s).filter(|t| has_symbol(tables, *t)).count()
+    let mut symbol = 0;
+    for t in 0..s {
+        symbol = next_symbol(tables, t, symbol);
+    }
+    symbol
 }
 
 // The region of the symbol of statement s: the loop's, or that of the access's variable.
