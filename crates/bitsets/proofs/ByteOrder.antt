@@ -49,7 +49,7 @@ joined-bit (suc n) bytes h b l = go (dec_lt b 8) (joined-bit n (λ i. bytes (suc
         ∙ bit_upper (joined n (λ i. bytes (suc i))) 8 (bytes 0) (b - 8) (h 0) ∙ rest (omega (arith, l))
         ∙ ap₂ (λ (i e : ℕ). bit (bytes i) e) q r
 
-joined_word : (s : Bytes) (at : ℕ) → ((i : ℕ) → byte s i < 256) → joined 8 (λ i. byte s (at + i)) ≡ from_bits 64 (bytes_bits s at)
+pub joined_word : (s : Bytes) (at : ℕ) → ((i : ℕ) → byte s i < 256) → joined 8 (λ i. byte s (at + i)) ≡ from_bits 64 (bytes_bits s at)
 unfolding bytes_bits
 joined_word s at small =
     is_number 64 _ (bytes_bits s at) (joined_less 8 _ (λ i. small (at + i))) (λ b l. joined-bit 8 _ (λ i. small (at + i)) b l)

@@ -48,10 +48,13 @@ pub trait SetOperator {
     ghost neither: { combination false false ≡ false };
 }
 
+#[derive(Clone, Copy)]
 pub struct Union;
 
+#[derive(Clone, Copy)]
 pub struct Intersection;
 
+#[derive(Clone, Copy)]
 pub struct Difference;
 
 #[tactic(auto, using(crate::proofs::Elements::union_word))]

@@ -1,5 +1,5 @@
 -- The starts of parts in a row, as a loop stores them, and that each part lies in the section that all of them fill; a map's entries there. Assumes nothing.
-use Rattle.std.proofs.Common.{ℕ, suc, ◌+◌, ◌-◌, ◌*◌, ◌/◌, ◌≤◌, ◌<◌, ◌≡◌, List, length, get_or, set, drop, ◌∙◌, add-one, length-take, length-drop, get_or-take, get_or-drop, arith}
+use Rattle.std.proofs.Common.{ℕ, suc, ◌+◌, ◌-◌, ◌*◌, ◌/◌, ◌≤◌, ◌<◌, ◌≡◌, List, length, get_or, set, drop, refl, ◌∙◌, add-one, length-take, length-drop, get_or-take, get_or-drop, arith}
 use Rattle.std.specs.List.{slice_range}
 use Rattle.model.specs.Bytes.{Bytes}
 use Rattle.model.specs.Layout.{Plan, map_count, supplied_count, source}
@@ -7,8 +7,8 @@ use Rattle.model.specs.DataSets.{DataSet, size, entry_start, entry, member_start
 use Rattle.primitives.proofs.Filling.{entry_next}
 use Rattle.dataset.specs.declared.layout.DataLayout.{DataLayout}
 use Rattle.dataset.specs.Layout.{PartsPlaced, set_of}
-use Rattle.dataset.specs.Entries.{EntriesReady, EntriesOf}
-use Rattle.dataset.specs.Supplied.{SuppliedReady}
+use Rattle.dataset.specs.Entries.{EntriesReady, EntrySources, EntriesOf}
+use Rattle.dataset.specs.Supplied.{SuppliedReady, SuppliedSources}
 use Rattle.dataset.proofs.Framing.{grows}
 
 module _ (start : ℕ → ℕ) where
@@ -43,17 +43,17 @@ pub part_long : {A : Type 0} (l : List A) (from to : ℕ) → from ≤ to → to
 part_long l from to le inside = omega (arith, length-take (to - from) (drop from l), length-drop from l)
 
 -- a part of the section, from where a map's entries begin and as long as they are
-pub entries_of : (P : Plan) (layout : DataLayout) (map : ℕ) {start count : ℕ} → start + 2 * count ≤ length layout.entries.now
-    → count ≡ size (set_of layout) (source P map) → start ≡ entry_start P (set_of layout) map
-    → EntriesOf P (set_of layout) map (slice_range layout.entries.now start (start + 2 * count))
+pub entries_of : (P : Plan) (D : DataSet) (layout : DataLayout) (map : ℕ) {start count : ℕ} → D.entries ≡ layout.entries.now
+    → start + 2 * count ≤ length layout.entries.now → count ≡ size D (source P map) → start ≡ entry_start P D map
+    → EntriesOf P D map (slice_range layout.entries.now start (start + 2 * count))
 unfolding entry
-entries_of P layout map {start} {count} inside counted begins =
+entries_of P D layout map {start} {count} entries inside counted begins =
     let part = λ (k : ℕ). in_part layout.entries.now start (start + 2 * count) k 0 in
     record {
       long = omega (arith, counted, part_long layout.entries.now start (start + 2 * count));
       entry_at = λ k lt.
           let next : start + (2 * k + 1) ≡ start + 2 * k + 1 = omega arith in
-          rw (part (2 * k) (omega (arith, counted)), part (2 * k + 1) (omega (arith, counted)), next, begins);
+          rw (part (2 * k) (omega (arith, counted)), part (2 * k + 1) (omega (arith, counted)), next, begins, entries);
     }
 
 -- the members of a partition begin in a section that the partitions fill
@@ -63,3 +63,10 @@ members_inside {supplied} {layout} k ready lt =
     let last = supplied_count ready.plan in
     let at : k < last = rw ready.supplied_are lt in
     omega (arith, ready.placed.begin k at, ready.placed.end_is, member_start_grows ready.plan (set_of layout) k last (omega arith))
+
+-- the data set that a layout has is of its parts
+pub own_entries : {P : Plan} {layout : DataLayout} → EntrySources P (set_of layout) P.maps layout
+own_entries = record { maps_are = refl; sizes_are = refl; entries_are = refl }
+
+pub own_members : {P : Plan} {layout : DataLayout} → SuppliedSources P (set_of layout) P.supplied layout
+own_members = record { supplied_are = refl; pieces_are = refl; sizes_are = refl; members_are = refl }

@@ -7,7 +7,7 @@ use Rattle.model.specs.Layout.{Plan, map_count, source}
 use Rattle.model.specs.DataSets.{DataSet, NONE, size, entry, entries_check}
 use Rattle.model.specs.declared.Refusal.TheVariants.{InvalidEntry}
 use Rattle.dataset.specs.declared.layout.DataLayout.{DataLayout}
-use Rattle.dataset.specs.Layout.{EntriesPlaced}
+use Rattle.dataset.specs.Layout.{set_of, EntriesPlaced}
 
 -- the entries of one map
 pub record EntriesOf (P : Plan) (D : DataSet) (map : ℕ) (entries : Bytes) : Type 0 where
@@ -34,9 +34,15 @@ module _ (entries : Bytes) (limit : ℕ) (partial : Bool) where
 abbrev pub all_entries : Plan → DataSet → Outcome
 all_entries P D = scan (entries_check P D) 0 (map_count P)
 
+-- a plan of these maps, and a data set of the layout's sizes and entries, whatever else it has
+pub record EntrySources (P : Plan) (D : DataSet) (maps : Bytes) (layout : DataLayout) : Type 0 where
+  pub maps_are : P.maps ≡ maps
+  pub sizes_are : D.sizes ≡ layout.sizes.now
+  pub entries_are : D.entries ≡ layout.entries.now
+
 -- the entries of all maps can be read: they lie in their section, where the layout says
 pub record EntriesReady (maps : Bytes) (layout : DataLayout) : Type 0 where
   pub few_maps : length maps / 3 ≤ 16
   pub plan : Plan
   pub maps_are : plan.maps ≡ maps
-  pub placed : EntriesPlaced plan layout
+  pub placed : EntriesPlaced plan (set_of layout) layout

@@ -45,14 +45,14 @@ module _ (P : Plan) where
       pub pieces_are : pieces D ≡ N
       pub sizes_are : D.sizes ≡ sizes
 
-  module _ (layout : DataLayout) where
-    -- the maps' entries begin where the layout says, and fill their section
-    abbrev pub EntriesPlaced : Type 0
-    EntriesPlaced = PartsPlaced (entry_start P (set_of layout)) (map_count P) layout.entry_starts (length layout.entries.now)
+    module _ (layout : DataLayout) where
+      -- the maps' entries begin where the layout says, and fill their section
+      abbrev pub EntriesPlaced : Type 0
+      EntriesPlaced = PartsPlaced (entry_start P D) (map_count P) layout.entry_starts (length layout.entries.now)
 
-    -- and so do the supplied partitions' members
-    abbrev pub MembersPlaced : Type 0
-    MembersPlaced = PartsPlaced (member_start P (set_of layout)) (supplied_count P) layout.member_starts (length layout.members.now)
+      -- and so do the supplied partitions' members
+      abbrev pub MembersPlaced : Type 0
+      MembersPlaced = PartsPlaced (member_start P D) (supplied_count P) layout.member_starts (length layout.members.now)
 
   -- refusal 12 of a data set
   abbrev pub frame_check : Bytes → Outcome
@@ -62,8 +62,8 @@ module _ (P : Plan) where
     -- the layout has the data set's parts, with entries and members where it says
     pub record DataPlaced (layout : DataLayout) : Type 0 where
       pub parts : set_of layout ≡ data_of d
-      pub entries : EntriesPlaced layout
-      pub members : MembersPlaced layout
+      pub entries : EntriesPlaced (set_of layout) layout
+      pub members : MembersPlaced (set_of layout) layout
       pub few_pieces : layout.pieces ≤ 16
       pub small_regions : SmallRegions layout
 

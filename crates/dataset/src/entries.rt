@@ -2,9 +2,9 @@
 // Numbers are narrowed by `as`: the bound is proved, and `try_from` would have a case that never comes.
 ghost use Rattle.std.specs.Prelude.{◌≡◌, ◌*◌, ◌/◌, ◌≤◌, ◌<◌, length};
 ghost use Rattle.model.specs.Layout.{Plan};
-ghost use Rattle.model.specs.DataSets.{entries_check};
-ghost use Rattle.dataset.specs.Layout.{set_of, EntriesPlaced};
-ghost use Rattle.dataset.specs.Entries.{entry_fitting, entries_fitting, entries_from, EntriesReady, all_entries};
+ghost use Rattle.model.specs.DataSets.{DataSet, entries_check};
+ghost use Rattle.dataset.specs.Layout.{EntriesPlaced};
+ghost use Rattle.dataset.specs.Entries.{entry_fitting, entries_fitting, entries_from, EntriesReady, EntrySources, all_entries};
 
 use crate::cells::region_size;
 use crate::layout::DataLayout;
@@ -65,7 +65,7 @@ impl MapEntries<'_> {
 fn check_map(maps: &[u8], layout: &DataLayout, map: usize) -> Result<(), Refusal>
     requires ready { EntriesReady maps.now layout.now }
     requires listed { map < length maps.now / 3 }
-    ensures { (P : Plan) → P.maps ≡ maps.now → EntriesPlaced P layout.now → result ≡ entries_check P (set_of layout.now) map }
+    ensures { (P : Plan) (D : DataSet) → EntrySources P D maps.now layout.now → EntriesPlaced P D layout.now → result ≡ entries_check P D map }
 {
     let entries = MapEntries {
         bytes: layout.map_entries(maps, map),
@@ -80,7 +80,7 @@ fn check_map(maps: &[u8], layout: &DataLayout, map: usize) -> Result<(), Refusal
 #[tactic(auto, using(primitives::proofs::Scanning::scanned))]
 pub fn check_entries(maps: &[u8], layout: &DataLayout) -> Result<(), Refusal>
     requires { EntriesReady maps.now layout.now }
-    ensures { (P : Plan) → P.maps ≡ maps.now → EntriesPlaced P layout.now → result ≡ all_entries P (set_of layout.now) }
+    ensures { (P : Plan) (D : DataSet) → EntrySources P D maps.now layout.now → EntriesPlaced P D layout.now → result ≡ all_entries P D }
 {
     for map in 0..maps.len() / 3 {
         check_map(maps, layout, map)?;

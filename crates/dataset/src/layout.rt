@@ -17,14 +17,15 @@ pub struct DataLayout<'a> {
 impl DataLayout<'_> {
     ghost use Rattle.std.specs.Prelude.{◌≡◌, ◌/◌, ◌<◌, length};
     ghost use Rattle.model.specs.Layout.{Plan};
-    ghost use Rattle.dataset.specs.Layout.{set_of, EntriesPlaced};
-    ghost use Rattle.dataset.specs.Entries.{EntriesReady, EntriesOf};
+    ghost use Rattle.model.specs.DataSets.{DataSet};
+    ghost use Rattle.dataset.specs.Layout.{EntriesPlaced};
+    ghost use Rattle.dataset.specs.Entries.{EntriesReady, EntrySources, EntriesOf};
 
     // The entries of one of the plan's maps. What it asks is in clauses: the layout holds no plan and no map's number.
     pub fn map_entries(&self, maps: &[u8], map: usize) -> &[u8]
         requires ready { EntriesReady maps.now self.now }
         requires listed { map < length maps.now / 3 }
-        ensures { (P : Plan) → P.maps ≡ maps.now → EntriesPlaced P self.now → EntriesOf P (set_of self.now) map result.now }
+        ensures { (P : Plan) (D : DataSet) → EntrySources P D maps.now self.now → EntriesPlaced P D self.now → EntriesOf P D map result.now }
     {
         let start = self.entry_starts[map];
         let end = start + 2 * region_size(self.sizes, map_source(maps, map));

@@ -1,10 +1,10 @@
 // The supplied partitions: whether each keeps its flags.
 ghost use Rattle.std.specs.Prelude.{◌≡◌, ◌+◌, ◌/◌, ◌≤◌, ◌<◌, length};
 ghost use Rattle.model.specs.Layout.{Plan};
-ghost use Rattle.model.specs.DataSets.{declarations_hold};
+ghost use Rattle.model.specs.DataSets.{DataSet, declarations_hold};
 ghost use Rattle.dataset.specs.Columns.{column_of, piece_word, column_at, columns_keep_flags};
-ghost use Rattle.dataset.specs.Layout.{set_of, MembersPlaced};
-ghost use Rattle.dataset.specs.Supplied.{SuppliedReady, all_supplied};
+ghost use Rattle.dataset.specs.Layout.{MembersPlaced};
+ghost use Rattle.dataset.specs.Supplied.{SuppliedReady, SuppliedSources, all_supplied};
 
 use crate::cells::region_size;
 use crate::layout::DataLayout;
@@ -89,7 +89,7 @@ impl SuppliedPieces<'_> {
 fn partition_keeps_flags(supplied: &[u8], layout: &DataLayout, partition: usize) -> bool
     requires ready { SuppliedReady supplied.now layout.now }
     requires listed { partition < length supplied.now / 2 }
-    ensures { (P : Plan) → P.supplied ≡ supplied.now → MembersPlaced P layout.now → result ≡ declarations_hold P (set_of layout.now) partition }
+    ensures { (P : Plan) (D : DataSet) → SuppliedSources P D supplied.now layout.now → MembersPlaced P D layout.now → result ≡ declarations_hold P D partition }
 {
     let start = layout.member_starts[partition];
     let flags = supplied_flags(supplied, partition);
@@ -108,7 +108,7 @@ fn partition_keeps_flags(supplied: &[u8], layout: &DataLayout, partition: usize)
 #[tactic(auto, using(primitives::proofs::Scanning::scanned))]
 pub fn check_supplied(supplied: &[u8], layout: &DataLayout) -> Result<(), Refusal>
     requires { SuppliedReady supplied.now layout.now }
-    ensures { (P : Plan) → P.supplied ≡ supplied.now → MembersPlaced P layout.now → result ≡ all_supplied P (set_of layout.now) }
+    ensures { (P : Plan) (D : DataSet) → SuppliedSources P D supplied.now layout.now → MembersPlaced P D layout.now → result ≡ all_supplied P D }
 {
     for partition in 0..supplied.len() / 2 {
         require(

@@ -8,7 +8,7 @@ use lib.ListN.{length}
 use Rattle.std.specs.Prelude.{Ok, Err}
 use Rattle.model.specs.Tests.{◌≤?◌}
 use Rattle.model.specs.Bytes.{Bytes}
-use Rattle.model.specs.Outcomes.{require, ◌then◌, conclude}
+use Rattle.model.specs.Outcomes.{require, ◌then◌, conclude, Outcome}
 use Rattle.model.specs.Layout.{Plan, plan_of}
 use Rattle.model.specs.Verdict.{accepted, plan_check, verdict}
 use Rattle.model.specs.DataSets.{DataSet, data_of, data_check}
@@ -75,6 +75,16 @@ module _ {p : Bytes} (d : Bytes) {reading : Reading} (read : AcceptedReading p r
         pub data_fits : data_check P d ≡ Ok tt
         unfolding data_check
         data_fits = passes_then laid.passes (rw laid.placed.parts at (passes_then entries supplied))
+
+-- the stages in a row, whatever is checked after them: the refusal of one that refuses, and what is left once all passed
+module _ (p d : Bytes) (rest : Outcome) where
+  pub refused_before : {r : Refusal} → inputs_check p d ≡ Err r → (inputs_check p d then rest) ≡ Err r
+  unfolding ◌then◌
+  refused_before h = rw h
+
+  pub rest_decides : inputs_check p d ≡ Ok tt → (inputs_check p d then rest) ≡ rest
+  unfolding ◌then◌
+  rest_decides h = rw h
 
 -- the rest of an evaluation
 module _ {p d : Bytes} {inputs : Inputs} (read : InputsOf p d inputs) (lent : ℕ) {needed : ℕ} (counted : needed ≡ words_needed (plan_given inputs) (data_given inputs)) where

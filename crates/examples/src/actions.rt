@@ -3,6 +3,7 @@
 use crate::tokens::Words;
 use dataset::cells::piece_count;
 use listing::{print_answer, print_charge, print_node};
+use model::Report;
 use std::io;
 use std::io::Write;
 
@@ -31,10 +32,7 @@ impl Built<'_> {
         };
         let answer = evaluate::evaluate(self.plan, self.data, lent_words);
         print_answer(out, answer)?;
-        if let Ok(acceptance) = answer {
-            self.print_nodes(out, &words, acceptance.nodes)?;
-        }
-        Ok(())
+        self.print_nodes(out, &words, Report::from(answer).nodes)
     }
 
     // Prints the members of each node's pieces; there are at most 48 nodes.

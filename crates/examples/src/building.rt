@@ -1,7 +1,6 @@
 // Plans and data sets, put together byte by byte.
 // Numbers are narrowed by `as`: the bound is proved, and `try_from` would have a case that never comes.
 use crate::tokens::{Words, number};
-use std::alloc::{AllocError, Global};
 
 // How a word of a case is laid out: a number in one byte or in two, or elements as bits, the highest first.
 // A value, since it holds from one line to the next, and matched once (`append_word`).
@@ -12,30 +11,31 @@ pub enum Unit {
     Bits,
 }
 
-// What is being built: its bytes, for so many of which there is room, and where the open section begins with its length.
+// What is being built: its bytes, in lent room and as many as the length says, and where the open section begins with its
+// length. No vector: this program too runs without a heap.
 #[derive(Drop)]
-pub struct Draft {
-    bytes: Vec<u8>,
-    room: usize,
+pub struct Draft<'a> {
+    room: &'a mut [u8],
+    len: usize,
     section: Option<usize>,
 }
 
-impl Draft {
-    pub fn new(alloc: Global, room: usize) -> Self {
+impl<'a> Draft<'a> {
+    pub fn new(room: &'a mut [u8]) -> Self {
         Draft {
-            bytes: Vec::new(alloc),
             room,
+            len: 0,
             section: None,
         }
     }
 
     pub fn bytes(&self) -> &[u8] {
-        self.bytes.as_slice()
+        self.room.get(..self.len).unwrap_or_default()
     }
 
     // Begins anew.
     pub fn clear(&mut self) {
-        self.bytes.clear();
+        self.len = 0;
         self.section = None;
     }
 
@@ -46,46 +46,43 @@ impl Draft {
 
     // What is appended from now on is the body of a section, whose length is 0 still. None is counted that stands before any
     // edition.
-    pub fn open(&mut self) -> Result<(), AllocError> {
-        let start = self.bytes.len();
-        self.push(0)?;
-        self.push(0)?;
+    pub fn open(&mut self) {
+        let start = self.len;
+        self.push(0);
+        self.push(0);
         self.section = (start > 0).then_some(start);
-        Ok(())
     }
 
     // Appends words as their unit says.
-    pub fn append(&mut self, unit: Unit, words: Words<'_>) -> Result<(), AllocError> {
+    pub fn append(&mut self, unit: Unit, words: Words<'_>) {
         for word in words {
-            self.append_word(unit, word)?;
+            self.append_word(unit, word);
         }
         self.write_length();
-        Ok(())
     }
 
-    fn append_word(&mut self, unit: Unit, word: &[u8]) -> Result<(), AllocError> {
+    fn append_word(&mut self, unit: Unit, word: &[u8]) {
         match unit {
             Unit::Byte => self.push((number(word) % 256) as u8),
             Unit::Wide => {
                 let [high, low] = ((number(word) % 65536) as u16).to_be_bytes();
-                self.push(high)?;
+                self.push(high);
                 self.push(low)
             }
             Unit::Bits => {
                 for bits in word.chunks(8) {
-                    self.push(eight_bits(bits))?;
+                    self.push(eight_bits(bits));
                 }
-                Ok(())
             }
         }
     }
 
     // Appends a byte, if there is room.
-    fn push(&mut self, byte: u8) -> Result<(), AllocError> {
-        if self.bytes.len() < self.room {
-            self.bytes.push(byte)?;
+    fn push(&mut self, byte: u8) {
+        if let Some(place) = self.room.get_mut(self.len) {
+            *place = byte;
+            self.len += 1;
         }
-        Ok(())
     }
 
     // Writes how long the open section is.
@@ -93,7 +90,7 @@ impl Draft {
         let Some(start) = self.section else {
             return;
         };
-        let Some(section) = self.bytes.as_mut_slice().get_mut(start..) else {
+        let Some(section) = self.room.get_mut(start..self.len) else {
             return;
         };
         if let [high, low, body @ ..] = section {

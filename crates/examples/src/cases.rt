@@ -3,14 +3,8 @@ use crate::actions::{Built, MOST_WORDS};
 use crate::building::{Draft, Unit};
 use crate::explaining::Request;
 use crate::tokens::Words;
-use std::alloc::{AllocError, Global};
 use std::io;
 use std::io::Write;
-
-// How many bytes a case may build: a line's `times` could ask for any number.
-const PLAN_ROOM: usize = 131_072;
-
-const DATA_ROOM: usize = 32_768;
 
 // Which of the two is being built: a value that holds from one line to the next, matched once (`draft`).
 #[derive(Clone, Copy)]
@@ -21,19 +15,19 @@ enum Part {
 
 // A case: what has been built, which part of it the words belong to, and how they are laid out.
 #[derive(Drop)]
-pub struct Case {
-    plan: Draft,
-    data: Draft,
+pub struct Case<'a> {
+    plan: Draft<'a>,
+    data: Draft<'a>,
     part: Part,
     unit: Unit,
 }
 
-impl Case {
-    // Nothing built yet.
-    pub fn new(alloc: Global) -> Self {
+impl<'a> Case<'a> {
+    // Nothing built yet; a plan and a data set are built where there is room lent for them, and cut where it ends.
+    pub fn new(plan_room: &'a mut [u8], data_room: &'a mut [u8]) -> Self {
         Case {
-            plan: Draft::new(alloc, PLAN_ROOM),
-            data: Draft::new(alloc, DATA_ROOM),
+            plan: Draft::new(plan_room),
+            data: Draft::new(data_room),
             part: Part::Plan,
             unit: Unit::Byte,
         }
@@ -46,8 +40,8 @@ impl Case {
             return Ok(());
         };
         match keyword {
-            b"plan" => self.begin(Part::Plan, words)?,
-            b"data" => self.begin(Part::Data, words)?,
+            b"plan" => self.begin(Part::Plan, words),
+            b"data" => self.begin(Part::Data, words),
             b"regions"
             | b"maps"
             | b"supplied"
@@ -55,15 +49,15 @@ impl Case {
             | b"nodes"
             | b"assignments"
             | b"steps"
-            | b"pieces" => self.open(Unit::Byte, words)?,
-            b"sizes" | b"entries" => self.open(Unit::Wide, words)?,
-            b"members" => self.open(Unit::Bits, words)?,
+            | b"pieces" => self.open(Unit::Byte, words),
+            b"sizes" | b"entries" => self.open(Unit::Wide, words),
+            b"members" => self.open(Unit::Bits, words),
             b"bytes" => {
                 self.close(Unit::Byte);
-                self.append(words)?
+                self.append(words)
             }
-            b"times" => self.append_times(words)?,
-            b"none" | [b'0'..=b'9', ..] => self.append(Words::new(line))?,
+            b"times" => self.append_times(words),
+            b"none" | [b'0'..=b'9', ..] => self.append(Words::new(line)),
             b"case" => {
                 out.write_all(words.rest())?;
                 out.write_all(b": ")?
@@ -78,7 +72,7 @@ impl Case {
     }
 
     // What is being built.
-    fn draft(&mut self) -> &mut Draft {
+    fn draft(&mut self) -> &mut Draft<'a> {
         match self.part {
             Part::Plan => &mut self.plan,
             Part::Data => &mut self.data,
@@ -94,7 +88,7 @@ impl Case {
     }
 
     // Begins a plan or a data set anew.
-    fn begin(&mut self, part: Part, words: Words<'_>) -> Result<(), AllocError> {
+    fn begin(&mut self, part: Part, words: Words<'_>) {
         self.part = part;
         self.unit = Unit::Byte;
         self.draft().clear();
@@ -109,24 +103,23 @@ impl Case {
     }
 
     // Opens a section, and appends words to it.
-    fn open(&mut self, unit: Unit, words: Words<'_>) -> Result<(), AllocError> {
+    fn open(&mut self, unit: Unit, words: Words<'_>) {
         self.close(unit);
-        self.draft().open()?;
+        self.draft().open();
         self.append(words)
     }
 
     // Appends words to what is being built.
-    fn append(&mut self, words: Words<'_>) -> Result<(), AllocError> {
+    fn append(&mut self, words: Words<'_>) {
         let unit = self.unit;
         self.draft().append(unit, words)
     }
 
     // Appends the words behind a number as often as it says.
-    fn append_times(&mut self, mut words: Words<'_>) -> Result<(), AllocError> {
+    fn append_times(&mut self, mut words: Words<'_>) {
         for _ in 0..words.number_or(0) {
-            self.append(words)?;
+            self.append(words);
         }
-        Ok(())
     }
 }
 

@@ -2,7 +2,7 @@
 use crate::actions::Built;
 use crate::tokens::Words;
 use listing::{print_explanation, print_pair};
-use model::Question;
+use model::{Question, WrittenReport};
 use provenance::explain;
 use std::io;
 use std::io::Write;
@@ -65,7 +65,7 @@ impl Built<'_> {
             for_elements,
         );
         print_explanation(out, answer)?;
-        let pairs = answer.unwrap_or(0);
+        let pairs = WrittenReport::from(answer).length;
         for (node, element) in nodes.iter().zip(&elements).take(pairs) {
             print_pair(out, *node, *element)?;
         }

@@ -26,18 +26,24 @@ mod explaining;
 mod tokens;
 
 use cases::Case;
-use files::read_start;
-use std::alloc::Global;
+use files::read_file;
 use std::io;
-use std::io::{BufWriter, Write};
+use std::io::Write;
 use std::rt::{Env, Files};
 
 // A file of cases is shorter.
 const TOO_LONG: usize = 65_536;
 
+// How many bytes a case may build: a line's `times` could ask for any number.
+const PLAN_ROOM: usize = 131_072;
+
+const DATA_ROOM: usize = 32_768;
+
 // Runs the cases of a text.
-fn run_cases<W: Write>(out: &mut W, alloc: Global, text: &[u8]) -> io::Result<()> {
-    let mut case = Case::new(alloc);
+fn run_cases<W: Write>(out: &mut W, text: &[u8]) -> io::Result<()> {
+    let mut plan = [0u8; PLAN_ROOM];
+    let mut data = [0u8; DATA_ROOM];
+    let mut case = Case::new(&mut plan, &mut data);
     for line in text.split(|byte| *byte == b'\n') {
         case.run_line(out, without_comment(line))?;
     }
@@ -53,24 +59,20 @@ fn without_comment(line: &[u8]) -> &[u8] {
     &line[..end]
 }
 
-// Runs the cases of a file.
-fn run_file<R: Files + Print + Eprint + AllocGlobal>(rt: &R, path: &[u8]) -> io::Result<()> {
-    let Some(text) = read_start(rt, path, TOO_LONG) else {
+// Runs the cases of a file. Each line is written at once: no buffer keeps it while the next is run, and none is allocated.
+fn run_file<R: Files + Print + Eprint>(rt: &R, path: &[u8]) -> io::Result<()> {
+    let mut text = [0u8; TOO_LONG];
+    let Some(length) = read_file(rt, path, &mut text) else {
         return Ok(());
     };
-    if text.len() == TOO_LONG {
+    if length == TOO_LONG {
         return eprintln!(rt; "a file of cases is too long");
     }
-    let mut out = BufWriter::new(rt.alloc(), io::writer(rt))?;
-    run_cases(&mut out, rt.alloc(), text.as_slice())?;
-    out.flush()
+    run_cases(&mut io::writer(rt), &text[..length])
 }
 
 // Runs the file that an argument names, and answers whether there is such an argument.
-fn run_argument<R: Env + Files + Print + Eprint + AllocGlobal>(
-    rt: &R,
-    number: usize,
-) -> io::Result<bool> {
+fn run_argument<R: Env + Files + Print + Eprint>(rt: &R, number: usize) -> io::Result<bool> {
     // Not `env::args`, which fails for all arguments if one is not UTF-8: that one alone is named on standard error.
     let mut path = [0u8; 4096];
     let Ok(length) = rt.arg(number, &mut path) else {

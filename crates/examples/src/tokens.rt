@@ -60,13 +60,19 @@ fn digit(byte: u8) -> usize
 }
 
 // A word as a number: 65535 for none, and the greatest of 64 bits for any that is not below it.
-// Not by `parse`, which takes text alone and refuses what is too great: a word is any bytes, and each has its number here.
+// Not by `parse`, which takes text alone and refuses what is too great: a word is any bytes, and each has its number here. By a
+// test and not by saturating operations, of which each waits for the one before: with those a file of numbers took a quarter longer.
 pub fn number(word: &[u8]) -> usize {
-    match word {
-        b"none" => 65535,
-        _ => word.iter().fold(
-            0usize,
-            |value, byte| value.saturating_mul(10).saturating_add(digit(*byte)),
-        ),
+    if let b"none" = word {
+        return 65535;
     }
+    let mut value = 0;
+    for byte in word {
+        let last = digit(*byte);
+        if value > (usize::MAX - last) / 10 {
+            return usize::MAX;
+        }
+        value = value * 10 + last;
+    }
+    value
 }

@@ -7,7 +7,7 @@ ghost use Rattle.model.specs.Layout.{Plan};
 ghost use Rattle.model.specs.Nodes.{node_formed};
 ghost use Rattle.expressions.specs.Nodes.{NodeSources, Declared, kind_byte, node_key, NodeRead, RegionRead, EarlierNodes, NodeChecked, NodesChecked};
 
-use crate::records::Node;
+pub use crate::records::Node;
 use model::{NodeKind, Refusal};
 use primitives::bytes::byte_at;
 use primitives::lookup::entry_or;
@@ -39,7 +39,7 @@ pub struct NodeTables {
 
 // The record of node j, of bytes 0 where there is none.
 #[tactic(auto, unfolding(model::specs::Nodes::node_kind_at))]
-pub(crate) fn node_at(nodes: &[u8], j: usize) -> Node
+pub fn node_at(nodes: &[u8], j: usize) -> Node
     requires { j * 4 + 3 < 2 ^ 64 }
     ensures { (P : Plan) → P.nodes ≡ nodes.now → NodeRead P j result }
 {

@@ -8,7 +8,7 @@ ghost use Rattle.expressions.specs.Steps.{StepSources, subset_key, disjoint_key,
 
 use crate::lemmas::lemma_row;
 use crate::licences::is_licensed;
-use crate::records::Step;
+pub use crate::records::Step;
 use model::{Conclusion, Lemma, Refusal};
 use primitives::outcomes::require;
 

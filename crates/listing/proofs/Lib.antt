@@ -2,3 +2,4 @@ pub mod Decimal
 pub mod Lines
 pub mod PastEnd
 pub mod Written
+pub mod Lengths

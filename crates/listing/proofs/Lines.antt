@@ -20,6 +20,14 @@ numbers_line : (word : Text) (first second third : ℕ) → numbers_text word fi
 unfolding numbers_text spaced
 numbers_line word first second third = simp append_assoc
 
+pub accepted_numbers : (a : Acceptance) → answer_text (report (Ok a)) ≡ numbers_text (codes "accepted") a.symbols a.nodes a.steps
+unfolding answer_text report pick ◌=?◌
+accepted_numbers a = refl
+
+pub charged_numbers : (c : Charge) → charge_text (charge_report (Ok c)) ≡ numbers_text (codes "charged") c.count c.cents c.remainder
+unfolding charge_text charge_report pick ◌=?◌
+charged_numbers c = refl
+
 pub accepted_line : (a : Acceptance) → answer_text (report (Ok a)) ≡ codes "accepted" ++ (32 ∷ (decimal a.symbols ++ (32 ∷ (decimal a.nodes ++ (32 ∷ (decimal a.steps ++ (10 ∷ [])))))))
 unfolding answer_text report pick ◌=?◌
 accepted_line a = numbers_line _ _ _ _

@@ -10,6 +10,10 @@ use Rattle.model.specs.declared.ChargeReport.{ChargeReport}
 abbrev pub Text : Type 0
 Text = List ℕ
 
+-- no line has more bytes: two numbers of 64 bits, and 512 members of three digits, each after a space
+abbrev pub longest : ℕ
+longest = 2112
+
 -- "each after a space"
 unfoldable pub spaced : ℕ → Text
 spaced n = 32 ∷ decimal n

@@ -21,18 +21,17 @@ use Rattle.model.proofs.Outcomes.{then_pass, require_pass}
 use Rattle.loops.specs.declared.statements.Statement.{Statement}
 use Rattle.loops.specs.declared.tables.StatementLoops.{StatementLoops}
 use Rattle.loops.specs.Statements.{StatementAt}
-use Rattle.loops.specs.Parallel.{access_at, AccessLimits, LoopsKnown, PointersKnown, pointer_reduction}
+use Rattle.loops.specs.Parallel.{access_at, AccessLimits, LoopsOf, PointersKnown, pointer_reduction}
 use Rattle.loops.proofs.StatementLaws.{operand_most}
 use Rattle.loops.proofs.Parallelizable.{own_reduction}
 
-module _ (P : Plan) {loops : StatementLoops} (known : LoopsKnown P loops) where
+module _ (P : Plan) (loops : StatementLoops) (known : LoopsOf P loops) where
   pub access_is : {s : ℕ} → s < statement_count P → {r : Statement} → StatementAt P s r → {access : Access} {o region field : ℕ} {z : Bool}
-      → access ≡ access_of r.kind → field ≡ access_field P s → o ≡ get_or loops.tables.now.operands s 0 → region ≡ get_or loops.tables.now.variable_regions o 0 → z ≡ get_or loops.tables.now.centered o false
+      → access ≡ access_of r.kind → field ≡ access_field P s → o ≡ get_or loops.operands.now s 0 → region ≡ get_or loops.variable_regions.now o 0 → z ≡ get_or loops.centered.now o false
       → record { access = access; region = region; field = field; centered = z; operator = r.c } ≡ access_at P s
   unfolding access_at
   access_is {s} lt is a g o r z =
-      let t = known.tables in
-      let at : _ ≡ operand_definition P s = o ∙ t.operands_are.holds s lt in
+      let at : _ ≡ operand_definition P s = o ∙ known.operands_are.holds s lt in
       let earlier : operand_definition P s < statement_count P = omega (arith, operand_most P s) in
       rw (
         a,
@@ -41,8 +40,8 @@ module _ (P : Plan) {loops : StatementLoops} (known : LoopsKnown P loops) where
         r,
         z,
         at,
-        t.regions_are.holds (operand_definition P s) earlier,
-        t.centers_are.holds (operand_definition P s) earlier,
+        known.regions_are.holds (operand_definition P s) earlier,
+        known.centers_are.holds (operand_definition P s) earlier,
         is.c_is,
       )
 

@@ -176,7 +176,7 @@ pass_start P =
     }
 
 module _ (P : Plan) {s : ℕ} {tables : StatementTables} {v : Variables} (pass : StatementPass P s v tables) where
-  pub earlier : EarlierStatements P s v tables
+  pub earlier : EarlierStatements P s v.definitions tables.variable_regions tables.centered
   earlier =
       record {
         definitions_are = pass.variables_are.defined;

@@ -4,14 +4,14 @@ use Rattle.std.specs.Int.Bits.{bit_or}
 use Rattle.model.specs.Tests.{Is, ◌and◌, ◌or◌, non, ◌=?◌, ◌≤?◌, every, pick}
 use Rattle.model.specs.Bytes.{Bytes}
 use Rattle.model.specs.Layout.{Plan, statement_count, statement_c}
-use Rattle.model.specs.Statements.{kind, access_of, is_access, accesses, loop, operand_definition, operand_region, access_field, centered}
+use Rattle.model.specs.Statements.{kind, access_of, is_access, accesses, loop, operand_definition, variable_region, operand_region, access_field, centered}
 use Rattle.model.specs.Parallel.{reduces, uncentered, access_of_loop}
 use Rattle.model.specs.Words.{bit}
 use Rattle.model.specs.declared.Access.{Access}
 use Rattle.model.specs.declared.Access.TheVariants.{Nothing, Reads, Writes, Reduces}
 use Rattle.loops.specs.declared.parallel.LoopAccess.{LoopAccess}
 use Rattle.loops.specs.declared.tables.StatementLoops.{StatementLoops}
-use Rattle.loops.specs.Tables.{Table, TablesHold}
+use Rattle.loops.specs.Tables.{Table}
 
 -- the access of statement s
 unfoldable pub access_at : Plan → ℕ → LoopAccess
@@ -31,10 +31,16 @@ pub record AccessLimits (P : Plan) (s : ℕ) : Type 0 where
   pub operator_few : Is (reduces P s) → statement_c P s < 4
 
 -- a plan of these statements, of which the tables hold the values
-pub record LoopsKnown (P : Plan) (loops : StatementLoops) : Type 0 where
-  pub section : P.statements ≡ loops.statements.now
-  pub tables : TablesHold P (statement_count P) loops.tables.now
+pub record LoopsKnown (P : Plan) (statements : Bytes) (operands regions : List ℕ) (centers : List Bool) : Type 0 where
+  pub section : P.statements ≡ statements
+  pub operands_are : Table 0 (statement_count P) operands (operand_definition P)
+  pub regions_are : Table 0 (statement_count P) regions (variable_region P)
+  pub centers_are : Table false (statement_count P) centers (centered P)
   pub limits : (s : ℕ) → s < statement_count P → Is (accesses P s) → AccessLimits P s
+
+-- a plan of the statements and tables that loops are judged by
+abbrev pub LoopsOf : Plan → StatementLoops → Type 0
+LoopsOf P loops = LoopsKnown P loops.statements.now loops.operands.now loops.variable_regions.now loops.centered.now
 
 -- statement s is one of at most 64
 pub record Within (statements : Bytes) (s : ℕ) : Type 0 where

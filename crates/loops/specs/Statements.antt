@@ -1,12 +1,11 @@
 -- One statement as section 4's reader holds it, and the loop's variables and the tables before it.
-use Rattle.std.specs.Prelude.{ℕ, ◌+◌, ◌≡◌, List, false, length, get_or, set}
+use Rattle.std.specs.Prelude.{ℕ, ◌+◌, ◌≡◌, List, Bool, false, length, get_or, set}
 use Rattle.model.specs.Tests.{◌and◌, ◌<?◌, pick}
 use Rattle.model.specs.Layout.{Plan, statement_a, statement_b, statement_c}
 use Rattle.model.specs.Statements.{kind, opens_loop, defines_variable, variables, definition, operand_definition, operand_region, variable_region, centered}
 use Rattle.model.specs.declared.StatementKind.{StatementKind}
 use Rattle.loops.specs.declared.statements.Statement.{Statement}
 use Rattle.loops.specs.declared.statements.StatementEntry.{StatementEntry}
-use Rattle.loops.specs.declared.tables.StatementTables.{StatementTables}
 use Rattle.loops.specs.declared.variables.Variables.{Variables}
 use Rattle.loops.specs.Tables.{Table}
 
@@ -40,10 +39,10 @@ module _ (P : Plan) (s : ℕ) where
     pub defined : (k : ℕ) → get_or v.definitions k 0 ≡ definition P s k
 
   -- what is held of the statements before s
-  pub record EarlierStatements (v : Variables) (tables : StatementTables) : Type 0 where
-    pub definitions_are : (k : ℕ) → get_or v.definitions k 0 ≡ definition P s k
-    pub regions_are : Table 0 s tables.variable_regions (variable_region P)
-    pub centers_are : Table false s tables.centered (centered P)
+  pub record EarlierStatements (definitions regions : List ℕ) (centers : List Bool) : Type 0 where
+    pub definitions_are : (k : ℕ) → get_or definitions k 0 ≡ definition P s k
+    pub regions_are : Table 0 s regions (variable_region P)
+    pub centers_are : Table false s centers (centered P)
 
   -- what the tables take of statement s
   pub record EntryAt (r : StatementEntry) : Type 0 where

@@ -1,14 +1,14 @@
 // Which loops can run in parallel, by the classes of accesses that each region and field has in a loop.
 // What is known of statements and tables (`LoopsKnown`, `PointersKnown`) is of every plan that has them: no field holds a plan.
 // That a statement is there is a clause: its number is a place in the section, which the struct holds or which is handed in.
-// `reduces_through_pointer` and what it calls take slices, as its caller in `plan` has them.
+// `check_loops`, `reduces_through_pointer` and what that calls take slices: who has the tables need not have them as arrays.
 ghost use Rattle.std.specs.Prelude.{◌≡◌, ◌/◌, ◌^◌, ◌<◌, ◌≤◌, length};
 ghost use Rattle.model.specs.Tests.{Is};
 ghost use Rattle.model.specs.Layout.{Plan, statement_count};
 ghost use Rattle.model.specs.Statements.{opens, loop};
 ghost use Rattle.model.specs.Parallel.{parallelizable, loop_check, reduces_through_pointer};
 ghost use Rattle.model.specs.Verdict.{loops_check};
-ghost use Rattle.loops.specs.Parallel.{Within, access_at, LoopsKnown, LoopSpan, target_number, class, compatible, entered, admitted, PointersKnown, pointer_reduction};
+ghost use Rattle.loops.specs.Parallel.{Within, access_at, LoopsKnown, LoopsOf, LoopSpan, target_number, class, compatible, entered, admitted, PointersKnown, pointer_reduction};
 
 use crate::kinds::{access_of, is_access, is_reduce, opens_loop};
 use crate::statements::{kind_at, statement_at};
@@ -114,21 +114,20 @@ fn loop_statements(statements: &[u8], f: usize) -> Range<usize>
 
 impl StatementLoops<'_> {
     // The access of statement s.
-    #[tactic(auto, using(crate::proofs::Accesses::access_is))]
     fn access(&self, s: usize) -> LoopAccess
         requires { s < length self.now.statements.now / 4 }
-        ensures { (P : Plan) → LoopsKnown P self.now → result ≡ access_at P s }
+        ensures { (P : Plan) → LoopsOf P self.now → result ≡ access_at P s }
     {
         let statement = statement_at(self.statements, s);
         // In this order: with the operand looked up first, section 4 takes a fifth longer on a loop of 64 statements.
         let access = access_of(statement.kind);
         let field = statement.field();
-        let operand = byte_at(&self.tables.operands, s);
+        let operand = byte_at(self.operands, s);
         LoopAccess {
             access,
-            region: byte_at(&self.tables.variable_regions, operand),
+            region: byte_at(self.variable_regions, operand),
             field,
-            centered: entry_or(&self.tables.centered, operand, false),
+            centered: entry_or(self.centered, operand, false),
             operator: statement.c,
         }
     }
@@ -136,7 +135,7 @@ impl StatementLoops<'_> {
     // Whether the loop that statement f opens is parallelizable, in one pass.
     fn is_parallelizable(&self, f: usize) -> bool
         requires { f < length self.now.statements.now / 4 }
-        ensures { (P : Plan) → LoopsKnown P self.now → Is (opens P f) → result ≡ parallelizable P f }
+        ensures { (P : Plan) → LoopsOf P self.now → Is (opens P f) → result ≡ parallelizable P f }
     {
         // The classes of the accesses so far, by region and field.
         let mut seen = [0; 128];
@@ -152,7 +151,7 @@ impl StatementLoops<'_> {
     #[tactic(auto, using(primitives::proofs::OpenTests::tests_open), unfolding(model::specs::Parallel::loop_check, model::specs::Statements::opens, model::specs::Outcomes::require))]
     fn check_loop(&self, f: usize) -> Result<(), Refusal>
         requires { f < length self.now.statements.now / 4 }
-        ensures { (P : Plan) → LoopsKnown P self.now → result ≡ loop_check P f }
+        ensures { (P : Plan) → LoopsOf P self.now → result ≡ loop_check P f }
     {
         if !opens_loop(kind_at(self.statements, f)) {
             return Ok(());
@@ -160,18 +159,30 @@ impl StatementLoops<'_> {
         let parallel = self.is_parallelizable(f);
         require(parallel, Refusal::NotParallelizable(f))
     }
+}
 
-    // The check of the loops, after section 4.
-    #[tactic(auto, using(primitives::proofs::Scanning::scanned))]
-    pub fn check_loops(&self) -> Result<(), Refusal>
-        ensures { (P : Plan) → LoopsKnown P self.now → result ≡ loops_check P }
-    {
-        // By `for` and `?`: `try_for_each` leaves the result open, since the library has no lemma of it over a range.
-        for f in 0..self.statements.len() / 4 {
-            self.check_loop(f)?;
-        }
-        Ok(())
+// The check of the loops, after section 4, by its statements and the tables made of them.
+#[tactic(auto, using(primitives::proofs::Scanning::scanned))]
+pub fn check_loops(
+    statements: &[u8],
+    operands: &[u8],
+    variable_regions: &[u8],
+    centered: &[bool],
+) -> Result<(), Refusal>
+    requires { length statements.now / 4 ≤ 64 }
+    ensures { (P : Plan) → LoopsKnown P statements.now operands.now variable_regions.now centered.now → result ≡ loops_check P }
+{
+    let loops = StatementLoops {
+        statements,
+        operands,
+        variable_regions,
+        centered,
+    };
+    // By `for` and `?`: `try_for_each` leaves the result open, since the library has no lemma of it over a range.
+    for f in 0..statements.len() / 4 {
+        loops.check_loop(f)?;
     }
+    Ok(())
 }
 
 // Whether statement s is a reduction through a variable that is not centered.

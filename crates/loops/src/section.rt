@@ -4,8 +4,9 @@ ghost use Rattle.std.specs.Prelude.{◌/◌, ◌≤◌, length};
 ghost use Rattle.model.specs.Layout.{Plan};
 ghost use Rattle.loops.specs.Section.{StatementSources, StatementsChecked};
 
+use crate::parallel::check_loops;
 use crate::statements::statement_at;
-use crate::tables::{StatementLoops, StatementTables};
+use crate::tables::StatementTables;
 use crate::variables::Variables;
 use model::Refusal;
 use primitives::bytes::byte_at;
@@ -38,10 +39,11 @@ pub fn check_statements_and_loops(
         statement.check(regions, maps, s, variables.count, region)?;
         variables.enter(statement.kind, s as u8);
     }
-    let loops = StatementLoops {
+    check_loops(
         statements,
-        tables: &tables,
-    };
-    loops.check_loops()?;
+        &tables.operands,
+        &tables.variable_regions,
+        &tables.centered,
+    )?;
     Ok(tables)
 }

@@ -5,10 +5,12 @@
 // has it.
 // `StatementAt` is of a record and of every plan that has it as statement s: no field of the record could hold that.
 // Numbers are narrowed by `as`: the bound is proved, and `try_from` would have a case that never comes.
-ghost use Rattle.std.specs.Prelude.{◌≡◌, ℕ, ◌/◌, ◌<◌, length};
+ghost use Rattle.std.specs.Prelude.{◌≡◌, ℕ, ◌/◌, ◌<◌, length, false};
 ghost use Rattle.model.specs.Layout.{Plan};
-ghost use Rattle.model.specs.Statements.{kind, operand, access_field, operand_region, region_by, centered_by, statement_formed, statement_agrees, statement_check};
+ghost use Rattle.model.specs.Statements as Statements;
+ghost use Rattle.model.specs.Statements.{kind, operand, access_field, operand_definition, variable_region, operand_region, region_by, centered_by, statement_formed, statement_agrees, statement_check};
 ghost use Rattle.loops.specs.Statements.{StatementAt, StatementContext, EarlierStatements, EntryAt};
+ghost use Rattle.loops.specs.Tables.{Table};
 
 use crate::lookup::earlier;
 use crate::tables::StatementTables;
@@ -60,6 +62,22 @@ pub fn statement_at(statements: &[u8], s: usize) -> Statement
         b: statements[s * 4 + 2],
         c: statements[s * 4 + 3],
     }
+}
+
+// What the tables take of statement s, from what they hold of the statements before it: of any slice of definitions.
+pub fn entry_of(
+    maps: &[u8],
+    statement: Statement,
+    s: usize,
+    definitions: &[u8],
+    variable_regions: &[u8; 64],
+    centered: &[bool; 64],
+) -> StatementEntry
+    requires { s < 64 }
+    ensures { (P : Plan) → P.maps ≡ maps.now → StatementAt P s statement → EarlierStatements P s definitions.now variable_regions.now centered.now → EntryAt P s result }
+{
+    let operand = entry_or(definitions, usize::from(statement.operand()), 0);
+    statement.entry_following(maps, s, operand, variable_regions, centered)
 }
 
 // One case for each kind, as in the definitions (project's form); 0 where the kind names no variable, field or region.
@@ -133,8 +151,30 @@ impl Statement {
         }
     }
 
-    // What the tables take of it, as statement s, from what they hold of the statements before it. Variables and tables are two
-    // parameters: the tables outlive the pass, the variables do not.
+    // What the tables take of it, as statement s, given the statement that defined the variable that it works on.
+    fn entry_following(
+        self,
+        maps: &[u8],
+        s: usize,
+        operand: u8,
+        variable_regions: &[u8; 64],
+        centered: &[bool; 64],
+    ) -> StatementEntry
+        requires { s < 64 }
+        ensures { (P : Plan) → P.maps ≡ maps.now → StatementAt P s self → operand ≡ operand_definition P s → Table 0 s variable_regions.now (variable_region P) → Table false s centered.now (Statements.centered P) → EntryAt P s result }
+    {
+        let followed = usize::from(operand);
+        let copied_region = earlier(variable_regions, s, followed).unwrap_or(0);
+        let copied_centered = earlier(centered, s, followed).unwrap_or(false);
+        StatementEntry {
+            operand,
+            region: self.variable_region(maps, copied_region),
+            centered: self.defines_centered(copied_centered),
+        }
+    }
+
+    // The same from what variables and tables hold of the statements before it. They are two parameters: the tables outlive the
+    // pass, the variables do not.
     pub(crate) fn entry(
         self,
         maps: &[u8],
@@ -143,17 +183,10 @@ impl Statement {
         tables: &StatementTables,
     ) -> StatementEntry
         requires { s < 64 }
-        ensures { (P : Plan) → P.maps ≡ maps.now → StatementAt P s self → EarlierStatements P s variables.now tables.now → EntryAt P s result }
+        ensures { (P : Plan) → P.maps ≡ maps.now → StatementAt P s self → EarlierStatements P s variables.now.definitions tables.now.variable_regions tables.now.centered → EntryAt P s result }
     {
         let operand = variables.definition(self.operand());
-        let followed = usize::from(operand);
-        let copied_region = earlier(&tables.variable_regions, s, followed).unwrap_or(0);
-        let copied_centered = earlier(&tables.centered, s, followed).unwrap_or(false);
-        StatementEntry {
-            operand,
-            region: self.variable_region(maps, copied_region),
-            centered: self.defines_centered(copied_centered),
-        }
+        self.entry_following(maps, s, operand, &tables.variable_regions, &tables.centered)
     }
 
     // Whether it is of a known kind with all its numbers in range and its unused bytes 0.

@@ -31,6 +31,8 @@ impl StatementTables {
 #[derive(Clone, Copy)]
 pub(crate) struct StatementLoops<'a> {
     pub statements: &'a [u8],
-    pub tables: &'a StatementTables,
+    pub operands: &'a [u8],
+    pub variable_regions: &'a [u8],
+    pub centered: &'a [bool],
     pub ghost few: { length statements.now / 4 ≤ 64 },
 }

@@ -2,19 +2,19 @@
 // and piece, the members.
 #![tactic(auto)]
 
-ghost use Rattle.std.specs.Prelude.{◌≡◌, ◌≤◌, IfSome, OnOk, vec_len};
+ghost use Rattle.std.specs.Prelude.{◌≡◌, length, OnOk};
 ghost use Rattle.std.specs.Io.KnownBytes.{Appends};
 ghost use Rattle.report.specs.Buffers.{plan_bytes, data_bytes};
 ghost use Rattle.report.specs.Printed.{symbols_text, Printed};
 
 use dataset::cells::piece_count;
 use evaluate::evaluate;
-use files::read_start;
+use files::read_file;
 use layout::cells::assigned_node;
 use listing::{print_answer, print_node};
+use model::Report;
 use std::io;
-use std::io::{BufWriter, Write};
-use std::rt::Files;
+use std::io::Write;
 
 // How much of each file is read: of a longer one, this gives the answer of the whole (proofs/Prefixes.antt).
 const PLAN_BYTES: usize = 458_761;
@@ -50,28 +50,39 @@ fn print_report<W: Write>(out: &mut W, plan: &[u8], data: &[u8]) -> io::Result<(
     let mut words = [0; MOST_WORDS];
     let answer = evaluate(plan, data, &mut words);
     print_answer(out, answer)?;
-    if let Ok(acceptance) = answer {
-        print_symbols(out, plan, data, &words, acceptance.symbols)?;
-    }
-    Ok(())
+    // As the report of the answer has them: on a refusal no symbol.
+    let report = Report::from(answer);
+    print_symbols(out, plan, data, &words, report.symbols)
 }
 
-// Reads the plan and the data set, both before either is judged.
-#[tactic(auto, unfolding(crate::specs::Buffers::plan_bytes, crate::specs::Buffers::data_bytes))]
-fn read_inputs<R: Files + Eprint + AllocGlobal>(rt: &R) -> Option<(Vec<u8>, Vec<u8>)>
-    ensures limits { (PLAN_BYTES ≡ plan_bytes) × (DATA_BYTES ≡ data_bytes) }
-    ensures within { IfSome result (λ inputs. (vec_len inputs.0 ≤ plan_bytes) × (vec_len inputs.1 ≤ data_bytes)) }
+// A buffer for a plan. Buffers, and no vectors: this program needs no heap.
+#[tactic(auto, unfolding(crate::specs::Buffers::plan_bytes))]
+fn plan_buffer() -> [u8; PLAN_BYTES]
+    ensures { (PLAN_BYTES ≡ length result) × (PLAN_BYTES ≡ plan_bytes) }
 {
-    let plan = read_start(rt, b"plan.bin", PLAN_BYTES);
-    let data = read_start(rt, b"data.bin", DATA_BYTES);
-    plan.zip(data)
+    [0; PLAN_BYTES]
 }
 
+// A buffer for a data set.
+#[tactic(auto, unfolding(crate::specs::Buffers::data_bytes))]
+fn data_buffer() -> [u8; DATA_BYTES]
+    ensures { (DATA_BYTES ≡ length result) × (DATA_BYTES ≡ data_bytes) }
+{
+    [0; DATA_BYTES]
+}
+
+// Both files are read before either is judged.
 fn main(rt: HostRuntime) -> io::Result<()> {
-    if let Some((plan, data)) = read_inputs(&rt) {
-        let mut out = BufWriter::new(rt.alloc(), io::writer(&rt))?;
-        print_report(&mut out, plan.as_slice(), data.as_slice())?;
-        out.flush()?;
+    let mut plan = plan_buffer();
+    let plan_length = read_file(&rt, b"plan.bin", &mut plan);
+    let mut data = data_buffer();
+    let data_length = read_file(&rt, b"data.bin", &mut data);
+    if let (Some(plan_length), Some(data_length)) = (plan_length, data_length) {
+        print_report(
+            &mut io::writer(&rt),
+            &plan[..plan_length],
+            &data[..data_length],
+        )?;
     }
     Ok(())
 }

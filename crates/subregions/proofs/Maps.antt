@@ -23,7 +23,7 @@ unfoldable pub upper : (ℕ → Bool) → ℕ → ℕ → ℕ
 upper elements w k = from_bits (64 * w + 64 - k) (λ b. elements (k + b))
 
 module _ (elements : ℕ → Bool) (w : ℕ) where
-  upper_none : (k : ℕ) → ((e : ℕ) → k ≤ e → e < 64 * w + 64 → elements e ≡ false) → 0 ≡ upper elements w k
+  pub upper_none : (k : ℕ) → ((e : ℕ) → k ≤ e → e < 64 * w + 64 → elements e ≡ false) → 0 ≡ upper elements w k
   unfolding upper
   upper_none k h =
       is_number (64 * w + 64 - k) 0 _ (pow_pos (64 * w + 64 - k)) (λ b l. bit_zero b ∙ sym (h (k + b) (omega arith) (omega arith)))

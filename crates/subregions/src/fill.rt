@@ -14,7 +14,7 @@ use primitives::records::{node_kind, node_operands};
 
 // Fills node j from its operands' words. Each of the three operators on two sets has a loop of its own, so that the
 // compiler combines a piece's words two at a time without a test.
-fn fill_node(words: &mut [u64], sources: &Sources, span: Span, j: usize)
+pub fn fill_node(words: &mut [u64], sources: &Sources, span: Span, j: usize)
     requires { NodeReady sources.now span (length words.old) j }
     ensures { (P : Plan) (d : Bytes) → NodeSources P d sources.now span (length words.old) j → words.new ≡ node_filled P (data_of d) span words.old j }
 {

@@ -5,4 +5,4 @@ use Rattle.listing.proofs.print_node.Given as goal
 
 abbrev pub invariant-loop-piece : goal.invariant-loop-piece
 invariant-loop-piece g l =
-    Appends (g.W.Write.contents l.initial.out) (g.W.Write.contents l.out) (pieces_text l.number l.node l.pieces l.words l.piece-counter)
+    Appends (g.W.Write.contents l.initial.out) (g.W.Write.contents l.out) (pieces_text l.number l.node l.pieces l.words l.piece)

@@ -28,16 +28,18 @@ invariant_of-pieces c =
 pub returns : goal.returns
 unfolding ◌=?◌ ◌or◌
 returns c =
-    λ P is placed.
-    let D = set_of c.args.layout.now in
+    λ P D known placed.
+    let is = known.supplied_are in
     rw (
       c.keep_flags.ensures,
       placed.begin c.args.partition (rw is c.requires.listed),
       rest_of,
+      ← known.members_are,
+      ← known.pieces_are,
       c.is_declared-2.ensures,
       c.is_declared.ensures,
       c.supplied_flags-flags.ensures.0 P is,
-      c.region_size.ensures.0 D refl,
+      c.region_size.ensures.0 D known.sizes_are,
       c.supplied_region.ensures.0 P is,
     )
     (sym (by_columns P D _))

@@ -57,7 +57,9 @@ all_passed c P from =
       tables,
       c.check_loops.ensures P (record {
         section = from.statements_are;
-        tables = tables;
+        operands_are = tables.operands_are;
+        regions_are = tables.regions_are;
+        centers_are = tables.centers_are;
         limits = λ s lt. access_limits P from.few_regions from.few_fields s (scan_pass _ _ passed s lt);
       }),
     )

@@ -1,8 +1,6 @@
--- Each entry is the value that the definition has, from what the tables hold of earlier statements. Assumes nothing.
-use mathlib.Core.Path.{◌≡◌, ◌∙◌}
-use Rattle.std.proofs.lemmas.Option.{unwrap_or-slice_get}
+-- The operand is the variable's definition; the rest follows. Assumes nothing.
+use mathlib.Core.Path.{◌≡◌}
 use Rattle.model.specs.Statements.{operand_definition}
-use Rattle.loops.proofs.StatementLaws.{region_value, centered_value}
 use Rattle.loops.proofs.statements.Statement.entry.Goals as goal
 
 pub returns : goal.returns
@@ -10,12 +8,4 @@ unfolding operand_definition
 returns c =
     λ P maps is held.
     let o : c.definition-operand.result ≡ operand_definition P c.args.s = rw (c.definition-operand.ensures, c.operand.ensures P _ is) (held.definitions_are _) in
-    record {
-      operand_is = o;
-      region_is =
-          c.variable_region.ensures P _ maps is
-          ∙ region_value P _ c.requires held.regions_are o (c.unwrap_or-copied_region.ensures ∙ rw (c.earlier.ensures, c.from-followed.ensures, unwrap_or-slice_get));
-      centered_is =
-          c.defines_centered.ensures P _ is
-          ∙ centered_value P _ c.requires held.centers_are o (c.unwrap_or-copied_centered.ensures ∙ rw (c.earlier-2.ensures, c.from-followed.ensures, unwrap_or-slice_get));
-    }
+    c.entry_following.ensures P maps is o held.regions_are held.centers_are

@@ -3,13 +3,13 @@ use Prim.Native.Nat.{ℕ, ◌<◌}
 use mathlib.Core.Path.{◌≡◌, sym, ◌∙◌}
 use native.Mathlib.Omega.{arith}
 use Rattle.model.specs.Layout.{Plan}
-use Rattle.loops.specs.Parallel.{access_at, entered, admitted, LoopsKnown}
+use Rattle.loops.specs.Parallel.{access_at, entered, admitted, LoopsOf}
 use Rattle.loops.proofs.SeenClasses.{seen_start, seen_next, not_parallelizable, seen_end}
 use Rattle.loops.proofs.tables.StatementLoops.is_parallelizable.Goals as goal
 use Rattle.loops.proofs.tables.StatementLoops.is_parallelizable.Goals.{After-enter}
 
 -- statement s of the loop: its access is entered among those that were seen, and admitted or not
-module _ (c : After-enter) (P : Plan) (known : LoopsKnown P c.args.self.now) where
+module _ (c : After-enter) (P : Plan) (known : LoopsOf P c.args.self.now) where
   abbrev s : ℕ
   s = c.loop-s.s-iterator.start
 
