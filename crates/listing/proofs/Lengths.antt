@@ -1,4 +1,4 @@
--- How many digits a number has, and texts joined. Assumes nothing.
+-- How many digits a number has. Assumes nothing.
 use Rattle.std.proofs.Common.{ℕ, ◌^◌, ◌≤◌, ◌<◌, length, arith}
 use Rattle.std.specs.Fmt.{decimal}
 use Rattle.std.proofs.lemmas.Fmt.{length-decimal-le}

@@ -15,7 +15,7 @@ use Rattle.model.specs.Bytes.{Bytes}
 use Rattle.model.specs.Partitions.{Partition, union, intersection, difference, image, preimage}
 use Rattle.model.specs.Layout.{Plan, node_count, source, target, node_kind, node_a, node_b}
 use Rattle.model.specs.Nodes.{node_kind_of, node_kind_at, node_region}
-use Rattle.model.specs.DataSets.{DataSet, size, maps_to}
+use Rattle.model.specs.DataSets.{data_of, DataSet, size, maps_to}
 use Rattle.model.specs.Membership.{node_sets_by, node_sets, member}
 use Rattle.model.specs.Words.{bit, holds, word, store}
 use Rattle.model.proofs.Tests.{both, pair, lacks, less, less!, split, fails, pick_true, pick-false, at_each, ◌also◌, same_truth}
@@ -27,7 +27,7 @@ use Rattle.model.proofs.NodeSets.{supplied_node, equal_node, union_node, interse
 use Rattle.subregions.specs.declared.Span.{Span}
 use Rattle.subregions.specs.declared.sources.Sources.{Sources}
 use Rattle.subregions.specs.Pieces.{piece_words, pieces_from}
-use Rattle.subregions.specs.Fill.{sets_of_words, node_filled, span_word, filled_up_to, span_filled, SpanFits, FillSources, NodeSources}
+use Rattle.subregions.specs.Fill.{sets_of_words, node_filled, span_word, filled_up_to, span_filled, SpanFits, NodeSizes, SizeSources, FillSources, NodeSources}
 use Rattle.subregions.proofs.NodeOperators.{sets_are}
 
 -- word w of node j's piece i among the span's
@@ -196,5 +196,23 @@ module _ (P : Plan) (D : DataSet) (span : Span) (old : List ℕ) (all : (k : ℕ
   all_filled = row span.nodes (omega arith)
 
 -- a node of the span is read from what all are read from
-pub node_sources : {P : Plan} {d : Bytes} {read : Sources} {span : Span} {lent now j : ℕ} → FillSources P d read span lent → now ≡ lent → j < span.nodes → NodeSources P d read span now j
-node_sources S same lt = record { sources = rw same S; node_spanned = lt }
+pub node_sources : {P : Plan} {d : Bytes} {read : Sources} {sizes : List ℕ} {span : Span} {lent now j : ℕ} → FillSources P d read span lent → NodeSizes P (data_of d) sizes span.nodes → now ≡ lent → j < span.nodes
+    → NodeSources P d read sizes span now j
+node_sources S sizes same lt =
+    record {
+      facts = S.facts;
+      limits = S.limits;
+      fits = S.fits;
+      span_fits = rw same S.span_fits;
+      nodes_are = S.nodes_are;
+      entries_are = S.entries_are;
+      members_are = S.members_are;
+      entries_begin = S.entries_begin;
+      members_begin = S.members_begin;
+      node_sizes_are = sizes;
+      node_spanned = lt;
+    }
+
+-- the sizes of the span's nodes are read from the sections that the data set has them in
+pub size_sources : {P : Plan} {d : Bytes} {read : Sources} {span : Span} {lent : ℕ} → FillSources P d read span lent → SizeSources P d read span.nodes
+size_sources S = record { sizes_are = S.sizes_are; node_regions_are = λ j l. S.node_regions_are j (omega (arith, S.span_fits.nodes_listed)) }

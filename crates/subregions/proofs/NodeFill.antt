@@ -29,7 +29,7 @@ use Rattle.bitsets.specs.Elements.{between, combined, supplied_elements}
 use Rattle.subregions.specs.declared.Span.{Span}
 use Rattle.subregions.specs.declared.sources.Sources.{Sources}
 use Rattle.subregions.specs.Pieces.{piece_words, pieces_from, supplied_pieces, equal_pieces, combined_pieces, image_pieces, preimage_pieces, SuppliedRoom, EqualRoom, CombinedRoom, ImageRoom, PreimageRoom}
-use Rattle.subregions.specs.Fill.{sets_of_words, node_filled, SizeSources, NodeSources, NodeReady}
+use Rattle.subregions.specs.Fill.{sets_of_words, node_filled, NodeSources, NodeReady}
 use Rattle.subregions.proofs.Maps.{supplied_from, entries_from, leading_from}
 use Rattle.subregions.proofs.NodePieces.{stored_behind, holds_before, holds_from, product}
 use Rattle.subregions.proofs.NodeOperators.{image_is, preimage_is, share_combination, sets_are, Combines, byte_is}
@@ -39,20 +39,20 @@ pub record OperandsRead (P : Plan) (j a b : ℕ) : Type 0 where
   pub a_is : a ≡ node_a P j
   pub b_is : b ≡ node_b P j
 
-module _ {P : Plan} {d : Bytes} {read : Sources} {span : Span} {lent j : ℕ}
-    (H : NodeSources P d read span lent j) where
+module _ {P : Plan} {d : Bytes} {read : Sources} {sizes : List ℕ} {span : Span} {lent j : ℕ}
+    (H : NodeSources P d read sizes span lent j) where
   fitted : Fit P (data_of d)
-  fitted = fit P d H.sources.fits
+  fitted = fit P d H.fits
 
   pub node_listed : j < node_count P
-  node_listed = omega (arith, H.node_spanned, H.sources.span_fits.nodes_listed)
+  node_listed = omega (arith, H.node_spanned, H.span_fits.nodes_listed)
 
   pub few_nodes : j < 48
-  few_nodes = omega (arith, node_listed, H.sources.limits.few_nodes)
+  few_nodes = omega (arith, node_listed, H.limits.few_nodes)
 
   -- the span's pieces are among the data set's, of which there are few
   span_listed : span.first + span.count ≤ pieces (data_of d)
-  span_listed = rw (← H.sources.span_fits.pieces_are) H.sources.span_fits.pieces_listed
+  span_listed = rw (← H.span_fits.pieces_are) H.span_fits.pieces_listed
 
   few_before : span.first + span.count ≤ 16
   few_before = omega (arith, span_listed, fitted.few_pieces)
@@ -60,12 +60,8 @@ module _ {P : Plan} {d : Bytes} {read : Sources} {span : Span} {lent j : ℕ}
   pub few_pieces : span.count ≤ 16
   few_pieces = omega (arith, few_before)
 
-  -- the sizes are read from the section that the data set has them in
-  pub size_sources : (k : ℕ) → k < node_count P → SizeSources P d read (k + 1)
-  size_sources k lt = record { sizes_are = H.sources.sizes_are; node_regions_are = λ i l. H.sources.node_regions_are i (omega arith) }
-
 -- where an operand's words begin is near: the piece, and its first word
-module _ {read : Sources} {span : Span} {lent j : ℕ} (ready : NodeReady read span lent j) {k : ℕ} (byte : k < 256) where
+module _ {read : Sources} {sizes : List ℕ} {span : Span} {lent j : ℕ} (ready : NodeReady read sizes span lent j) {k : ℕ} (byte : k < 256) where
   pub piece_near : Fits w64 (k * span.count)
   piece_near = omega (arith, product k span.count 256 16 (omega arith) (few_pieces ready.sources))
 
@@ -73,15 +69,15 @@ module _ {read : Sources} {span : Span} {lent j : ℕ} (ready : NodeReady read s
   word_near = omega (arith, product k span.count 256 16 (omega arith) (few_pieces ready.sources))
 
 -- what a node is filled from: its sources, the words cut where its own begin, its operands and its region's size, as they are read
-pub record Filled (P : Plan) (d : Bytes) (read : Sources) (span : Span) (j : ℕ) (words earlier own : List ℕ) (a b n : ℕ) : Type 0 where
-  pub node : NodeSources P d read span (length words) j
+pub record Filled (P : Plan) (d : Bytes) (read : Sources) (sizes : List ℕ) (span : Span) (j : ℕ) (words earlier own : List ℕ) (a b n : ℕ) : Type 0 where
+  pub node : NodeSources P d read sizes span (length words) j
   pub front : earlier ≡ take (j * span.count * 8) words
   pub back : own ≡ drop (j * span.count * 8) words
   pub operands : OperandsRead P j a b
-  pub size_read : SizeSources P d read (j + 1) → n ≡ size (data_of d) (node_region P j)
+  pub size_read : n ≡ get_or sizes j 0
 
-module _ {P : Plan} {d : Bytes} {read : Sources} {span : Span} {j : ℕ} {words earlier own : List ℕ} {a b n : ℕ}
-    (G : Filled P d read span j words earlier own a b n) where
+module _ {P : Plan} {d : Bytes} {read : Sources} {sizes : List ℕ} {span : Span} {j : ℕ} {words earlier own : List ℕ} {a b n : ℕ}
+    (G : Filled P d read sizes span j words earlier own a b n) where
   abbrev D : DataSet
   D = data_of d
 
@@ -90,11 +86,11 @@ module _ {P : Plan} {d : Bytes} {read : Sources} {span : Span} {j : ℕ} {words 
   N = span.count
 
   F : Facts P
-  F = G.node.sources.facts
+  F = G.node.facts
 
   -- the node's words, and those of an earlier node before them
   own_room : j * N * 8 + N * 8 ≤ length words
-  own_room = omega (arith, G.node.sources.span_fits.enough, mul-le-mul_right N G.node.node_spanned, suc-mul j N)
+  own_room = omega (arith, G.node.span_fits.enough, mul-le-mul_right N G.node.node_spanned, suc-mul j N)
 
   room : N * 8 ≤ length own
   room = omega (arith, own_room, ap length G.back, length-drop (j * N * 8) words)
@@ -124,7 +120,7 @@ module _ {P : Plan} {d : Bytes} {read : Sources} {span : Span} {j : ℕ} {words 
       (λ w l. word_same _ _ (w % 8) (λ b m. same (w / 8) (w % 8 * 64 + b) (omega arith) (omega arith)))
 
   size_is : n ≡ size D (node_region P j)
-  size_is = G.size_read (size_sources G.node j (node_listed G.node))
+  size_is = G.size_read ∙ G.node.node_sizes_are j G.node.node_spanned
 
   own_size : n ≤ 512
   own_size = rw (size_is) (size_small j (node_listed G.node))
@@ -138,7 +134,7 @@ module _ {P : Plan} {d : Bytes} {read : Sources} {span : Span} {j : ℕ} {words 
     members_are =
         from_start
         ∙ ap₂ (λ (x : ℕ) (list : List ℕ). drop x list)
-        (ap (λ (x : ℕ). get_or read.member_starts.now x 0) G.operands.a_is ∙ G.node.sources.members_begin (node_a P j) supplied_is.listed) G.node.sources.members_are
+        (ap (λ (x : ℕ). get_or read.member_starts.now x 0) G.operands.a_is ∙ G.node.members_begin (node_a P j) supplied_is.listed) G.node.members_are
 
     pub supplied_room : SuppliedRoom own n span
     supplied_room = record { few_pieces = few_before G.node; few_elements = own_size; room = room }
@@ -157,9 +153,9 @@ module _ {P : Plan} {d : Bytes} {read : Sources} {span : Span} {j : ℕ} {words 
   pub equal_room : EqualRoom own n span
   equal_room =
       record {
-        some_piece = rw G.node.sources.span_fits.pieces_are (fitted G.node).some_piece;
-        few_pieces = rw G.node.sources.span_fits.pieces_are (fitted G.node).few_pieces;
-        pieces_listed = G.node.sources.span_fits.pieces_listed;
+        some_piece = rw G.node.span_fits.pieces_are (fitted G.node).some_piece;
+        few_pieces = rw G.node.span_fits.pieces_are (fitted G.node).few_pieces;
+        pieces_listed = G.node.span_fits.pieces_listed;
         few_elements = own_size;
         room = room;
       }
@@ -169,7 +165,7 @@ module _ {P : Plan} {d : Bytes} {read : Sources} {span : Span} {j : ℕ} {words 
   unfolding equal_pieces between equal contiguous node_sets_by
   equal_done k q =
       let n-is = size_is ∙ ap (size D) (equal_node P D F j (node_listed G.node) (byte_is P D F j (node_listed G.node) k)).region in
-      done _ q (λ i e l h. rw (sets_are P D j sets k, G.node.sources.span_fits.pieces_are, n-is, add-one (span.first + i))
+      done _ q (λ i e l h. rw (sets_are P D j sets k, G.node.span_fits.pieces_are, n-is, add-one (span.first + i))
       (same_truth (λ t. pair (less! (omega (arith, span_listed G.node))) t) (λ t. (both t).1)))
 
   -- what the words hold of an earlier node, read off the words from its first on
@@ -215,17 +211,17 @@ module _ {P : Plan} {d : Bytes} {read : Sources} {span : Span} {j : ℕ} {words 
     map_entries listed =
         from_start
         ∙ ap₂ (λ (x : ℕ) (list : List ℕ). drop x list)
-        (ap (λ (x : ℕ). get_or read.entry_starts.now x 0) G.operands.b_is ∙ G.node.sources.entries_begin (node_b P j) listed) G.node.sources.entries_are
+        (ap (λ (x : ℕ). get_or read.entry_starts.now x 0) G.operands.b_is ∙ G.node.entries_begin (node_b P j) listed) G.node.entries_are
 
     map_room : (listed : node_b P j < map_count P) → 2 * size D (source P (node_b P j)) ≤ length entries
     map_room listed =
         omega (arith, ap length (map_entries listed), length-drop (entry_start P D (node_b P j)) D.entries, entries_there P D (fitted G.node) (node_b P j) listed)
 
-    operand_size : {m r : ℕ} → (SizeSources P d read (a + 1) → m ≡ size D (node_region P a)) → node_a P j < j → node_region P (node_a P j) ≡ r → m ≡ size D r
+    operand_size : {m r : ℕ} → m ≡ get_or sizes a 0 → node_a P j < j → node_region P (node_a P j) ≡ r → m ≡ size D r
     operand_size read_size before region =
-        read_size (size_sources G.node a (omega (arith, G.operands.a_is, node_listed G.node))) ∙ ap (λ (x : ℕ). size D (node_region P x)) G.operands.a_is ∙ ap (size D) region
+        read_size ∙ G.node.node_sizes_are a (omega (arith, G.operands.a_is, G.node.node_spanned)) ∙ ap (λ (x : ℕ). size D (node_region P x)) G.operands.a_is ∙ ap (size D) region
 
-    module _ {operand : List ℕ} (at_operand : operand ≡ drop (a * N * 8) earlier) {m : ℕ} (sized : SizeSources P d read (a + 1) → m ≡ size D (node_region P a)) where
+    module _ {operand : List ℕ} (at_operand : operand ≡ drop (a * N * 8) earlier) {m : ℕ} (sized : m ≡ get_or sizes a 0) where
       -- image
       module _ (k : node_kind_at P j ≡ Image) where
         image_of : ImageNode P D j

@@ -48,6 +48,10 @@ module _ (P : Plan) (D : DataSet) where
       pub pieces_listed : span.first + span.count ≤ span.pieces
       pub enough : span.nodes * span.count * 8 ≤ lent
 
+  -- a table has the sizes of the first nodes' regions
+  abbrev pub NodeSizes : List ℕ → ℕ → Type 0
+  NodeSizes table count = (j : ℕ) → j < count → get_or table j 0 ≡ size D (node_region P j)
+
 -- what the sizes of the first nodes' regions are read from
 pub record SizeSources (P : Plan) (d : Bytes) (read : Sources) (count : ℕ) : Type 0 where
   pub sizes_are : read.sizes.now ≡ (data_of d).sizes
@@ -73,13 +77,22 @@ pub record FillReady (read : Sources) (span : Span) (lent : ℕ) : Type 0 where
   pub bytes : Bytes
   pub sources : FillSources plan bytes read span lent
 
--- a node of the span
-pub record NodeSources (P : Plan) (d : Bytes) (read : Sources) (span : Span) (lent j : ℕ) : Type 0 where
-  pub sources : FillSources P d read span lent
+-- a node of the span, and the table of the nodes' sizes: of regions and sizes nothing else is read of it
+pub record NodeSources (P : Plan) (d : Bytes) (read : Sources) (nodeSizes : List ℕ) (span : Span) (lent j : ℕ) : Type 0 where
+  pub facts : Facts P
+  pub limits : Limits P
+  pub fits : data_check P d ≡ Ok tt
+  pub span_fits : SpanFits P (data_of d) span lent
+  pub nodes_are : read.nodes.now ≡ P.nodes
+  pub entries_are : read.entries.now ≡ (data_of d).entries
+  pub members_are : read.members.now ≡ (data_of d).members
+  pub entries_begin : (m : ℕ) → m < map_count P → get_or read.entry_starts.now m 0 ≡ entry_start P (data_of d) m
+  pub members_begin : (k : ℕ) → k < supplied_count P → get_or read.member_starts.now k 0 ≡ member_start P (data_of d) k
+  pub node_sizes_are : NodeSizes P (data_of d) nodeSizes span.nodes
   pub node_spanned : j < span.nodes
 
 -- node j can be filled
-pub record NodeReady (read : Sources) (span : Span) (lent j : ℕ) : Type 0 where
+pub record NodeReady (read : Sources) (nodeSizes : List ℕ) (span : Span) (lent j : ℕ) : Type 0 where
   pub plan : Plan
   pub bytes : Bytes
-  pub sources : NodeSources plan bytes read span lent j
+  pub sources : NodeSources plan bytes read nodeSizes span lent j

@@ -10,17 +10,18 @@ use crate::pieces::{fill_combined, fill_equal, fill_image, fill_preimage, fill_s
 use crate::sources::{Sources, part_from};
 use bitsets::words::{Difference, Intersection, Union, has_bit};
 use model::NodeKind;
+use primitives::lookup::entry_or;
 use primitives::records::{node_kind, node_operands};
 
-// Fills node j from its operands' words. Each of the three operators on two sets has a loop of its own, so that the
+// Fills node j from its operands' words. The sizes come as a table, with which regions and sizes need not be at hand. Each of the three operators on two sets has a loop of its own, so that the
 // compiler combines a piece's words two at a time without a test.
-pub fn fill_node(words: &mut [u64], sources: &Sources, span: Span, j: usize)
-    requires { NodeReady sources.now span (length words.old) j }
-    ensures { (P : Plan) (d : Bytes) → NodeSources P d sources.now span (length words.old) j → words.new ≡ node_filled P (data_of d) span words.old j }
+pub fn fill_node(words: &mut [u64], sources: &Sources, node_sizes: &[usize], span: Span, j: usize)
+    requires { NodeReady sources.now node_sizes.now span (length words.old) j }
+    ensures { (P : Plan) (d : Bytes) → NodeSources P d sources.now node_sizes.now span (length words.old) j → words.new ≡ node_filled P (data_of d) span words.old j }
 {
     let kind = node_kind(sources.nodes, j);
     let (a, b) = node_operands(sources.nodes, j);
-    let size = sources.node_size(j);
+    let size = entry_or(node_sizes, j, 0);
     let count = span.count;
     let (earlier, own) = words.split_at_mut(j * count * 8);
     let left = part_from(earlier, a * count * 8);
@@ -38,11 +39,11 @@ pub fn fill_node(words: &mut [u64], sources: &Sources, span: Span, j: usize)
             fill_combined::<Difference>(own, left, part_from(earlier, right), size, count)
         }
         NodeKind::Image => {
-            let elements = sources.node_size(a);
+            let elements = entry_or(node_sizes, a, 0);
             fill_image(own, left, sources.map_entries(b), elements, count)
         }
         NodeKind::Preimage => {
-            let a_size = sources.node_size(a);
+            let a_size = entry_or(node_sizes, a, 0);
             fill_preimage(own, left, sources.map_entries(b), size, a_size, count)
         }
         NodeKind::Unknown => {}
@@ -54,9 +55,10 @@ pub fn fill_nodes(words: &mut [u64], sources: &Sources, span: Span)
     requires { FillReady sources.now span (length words.old) }
     ensures { (P : Plan) (d : Bytes) → FillSources P d sources.now span (length words.old) → words.new ≡ span_filled P (data_of d) span words.old }
 {
+    let node_sizes = sources.node_sizes(span.nodes);
     for j in 0..span.nodes {
         if has_bit(span.needed, j) {
-            fill_node(words, sources, span, j);
+            fill_node(words, sources, &node_sizes, span, j);
         }
     }
 }

@@ -169,8 +169,8 @@ pub fn image_piece(operand: &[u64], entries: &[u8], masks: &[u64; 8], at: usize)
 {
     // Entries that lead to no element go into a spare word.
     let mut set = [0; 9];
-    for w in 0..8 {
-        add_entries(&mut set, entries, 128 * w, operand[at + w] & masks[w]);
+    for k in 0..8 {
+        add_entries(&mut set, entries, 128 * k, operand[at + k] & masks[k]);
     }
     *set.first_chunk().unwrap()
 }

@@ -30,7 +30,20 @@ pub struct Sources<'a> {
 }
 
 impl Sources<'_> {
-    ghost use Rattle.subregions.specs.Fill.{SizeSources};
+    ghost use Rattle.std.specs.Prelude.{◌≤◌};
+    ghost use Rattle.subregions.specs.Fill.{SizeSources, NodeSizes};
+
+    // The sizes of the first `count` nodes' regions.
+    pub fn node_sizes(&self, count: usize) -> [usize; 48]
+        requires { count ≤ 48 }
+        ensures { (P : Plan) (d : Bytes) → SizeSources P d self.now count → NodeSizes P (data_of d) result count }
+    {
+        let mut table = [0; 48];
+        for j in 0..count {
+            table[j] = self.node_size(j);
+        }
+        table
+    }
 
     // The size of node j's region.
     #[tactic(auto, using(crate::proofs::Sizes::size_read))]

@@ -22,6 +22,7 @@ use Rattle.model.proofs.Outcomes.{then_pass, require_pass, required, require_fai
 use Rattle.model.proofs.ChargePromise.{charge_promise}
 use Rattle.evaluate.specs.Inputs.{plan_given, data_given, InputsOf}
 use Rattle.evaluate.specs.declared.inputs.Inputs.{Inputs}
+use Rattle.evaluate.proofs.Stages.{refused_before, rest_decides}
 
 -- a node that does not exist
 module _ (P : Plan) (t : Transfer) where
@@ -55,14 +56,14 @@ module _ (P : Plan) (t : Transfer) (passes : transfer_check P t ≡ Ok tt) where
 module _ (p d : Bytes) (t : Transfer) where
   -- refused for plan or data set
   pub inputs_refused : {r : Refusal} → inputs_check p d ≡ Err r → ChargePromise p d t (Err r)
-  unfolding charge charge_check conclude ◌then◌
-  inputs_refused h = charge_promise p d t _ (rw h)
+  unfolding charge charge_check conclude
+  inputs_refused h = charge_promise p d t _ (rw (refused_before p d _ h))
 
   module _ {inputs : Inputs} (read : InputsOf p d inputs) where
     decided : charge p d t ≡ conclude (transfer_check (plan_given inputs) t) (priced (transfer_count (plan_given inputs) (data_given inputs) t) t.price)
-    unfolding charge charge_check ◌then◌
+    unfolding charge charge_check
     decided =
-        rw read.passes
+        rw (rest_decides p d _ read.passes)
         (ap₂ (λ (P : Plan) (D : DataSet). conclude (transfer_check P t) (priced (transfer_count P D t) t.price)) (sym read.plan_is) (ap data_of (sym read.data_is)))
 
     -- refused for the transfer

@@ -16,33 +16,33 @@ use Rattle.subregions.proofs.fill.fill_node.Goals.{After-part_from-left}
 
 -- what it is handed, of a plan and data
 abbrev Handed : After-part_from-left → Plan → Bytes → Type 0
-Handed c P d = NodeSources P d c.args.sources.now c.args.span (length c.args.words.now) c.args.j
+Handed c P d = NodeSources P d c.args.sources.now c.args.node_sizes.now c.args.span (length c.args.words.now) c.args.j
 
 -- what it reads and cuts of that
 filled : (c : After-part_from-left) {P : Plan} {d : Bytes} → Handed c P d
-    → Filled P d c.args.sources.now c.args.span c.args.j c.args.words.now c.split_at_mut-earlier.result.0.now c.split_at_mut-earlier.result.1.now c.node_operands-a.result.0 c.node_operands-a.result.1 c.node_size-size.result
+    → Filled P d c.args.sources.now c.args.node_sizes.now c.args.span c.args.j c.args.words.now c.split_at_mut-earlier.result.0.now c.split_at_mut-earlier.result.1.now c.node_operands-a.result.0 c.node_operands-a.result.1 c.entry_or-size.result
 filled c {P} h =
-    let same = sym h.sources.nodes_are in
+    let same = sym h.nodes_are in
     record {
       node = h;
       front = c.split_at_mut-earlier.ensures.front;
       back = c.split_at_mut-earlier.ensures.back;
       operands = record { a_is = c.node_operands-a.ensures.left P same; b_is = c.node_operands-a.ensures.right P same };
-      size_read = c.node_size-size.ensures.size _ _;
+      size_read = c.entry_or-size.ensures;
     }
 
 kind_is : (c : After-part_from-left) {P : Plan} {d : Bytes} → Handed c P d → {kind : NodeKind} → c.node_kind-kind.result ≡ kind → node_kind_at P c.args.j ≡ kind
-kind_is c {P} h told = sym (c.node_kind-kind.ensures P (sym h.sources.nodes_are)) ∙ told
+kind_is c {P} h told = sym (c.node_kind-kind.ensures P (sym h.nodes_are)) ∙ told
 
 -- the three operators on two sets
 united : (c : After-part_from-left) {P : Plan} {d : Bytes} → Handed c P d → c.node_kind-kind.result ≡ Union → Combines P (data_of d) c.args.j union
-united c h told = unites _ _ h.sources.facts _ (node_listed h) (kind_is c h told)
+united c h told = unites _ _ h.facts _ (node_listed h) (kind_is c h told)
 
 intersected : (c : After-part_from-left) {P : Plan} {d : Bytes} → Handed c P d → c.node_kind-kind.result ≡ Intersection → Combines P (data_of d) c.args.j intersection
-intersected c h told = intersects _ _ h.sources.facts _ (node_listed h) (kind_is c h told)
+intersected c h told = intersects _ _ h.facts _ (node_listed h) (kind_is c h told)
 
 subtracted : (c : After-part_from-left) {P : Plan} {d : Bytes} → Handed c P d → c.node_kind-kind.result ≡ Difference → Combines P (data_of d) c.args.j difference
-subtracted c h told = subtracts _ _ h.sources.facts _ (node_listed h) (kind_is c h told)
+subtracted c h told = subtracts _ _ h.facts _ (node_listed h) (kind_is c h told)
 
 pub overflow_mul-a : goal.overflow_mul-a
 overflow_mul-a c = piece_near c.requires c.node_operands-a.ensures.bytes.0
@@ -84,12 +84,12 @@ fill_combined-requires-in-Difference c =
 pub fill_image-requires : goal.fill_image-requires
 fill_image-requires c =
     let x = (goal.at.fill_image-requires c).After-part_from-left in
-    image_room (filled x c.requires.sources) c.map_entries.ensures c.part_from-left.ensures (c.node_size-elements.ensures.size _ _) (kind_is x c.requires.sources c.in-Image.is)
+    image_room (filled x c.requires.sources) c.map_entries.ensures c.part_from-left.ensures c.entry_or-elements.ensures (kind_is x c.requires.sources c.in-Image.is)
 
 pub fill_preimage-requires : goal.fill_preimage-requires
 fill_preimage-requires c =
     let x = (goal.at.fill_preimage-requires c).After-part_from-left in
-    preimage_room (filled x c.requires.sources) c.map_entries-in-Preimage.ensures c.part_from-left.ensures (c.node_size-a_size.ensures.size _ _) (kind_is x c.requires.sources c.in-Preimage.is)
+    preimage_room (filled x c.requires.sources) c.map_entries-in-Preimage.ensures c.part_from-left.ensures c.entry_or-a_size.ensures (kind_is x c.requires.sources c.in-Preimage.is)
 
 pub returns-in-Supplied : goal.returns-in-Supplied
 returns-in-Supplied c P d h =
@@ -119,14 +119,14 @@ returns-in-Difference c P d h =
 pub returns-in-Image : goal.returns-in-Image
 returns-in-Image c P d h =
     let x = (goal.at.returns-in-Image c).After-part_from-left in
-    image_done (filled x h) c.map_entries.ensures c.part_from-left.ensures (c.node_size-elements.ensures.size _ _) (kind_is x h c.in-Image.is) c.fill_image.ensures
+    image_done (filled x h) c.map_entries.ensures c.part_from-left.ensures c.entry_or-elements.ensures (kind_is x h c.in-Image.is) c.fill_image.ensures
 
 pub returns-in-Preimage : goal.returns-in-Preimage
 returns-in-Preimage c P d h =
     let x = (goal.at.returns-in-Preimage c).After-part_from-left in
-    preimage_done (filled x h) c.map_entries-in-Preimage.ensures c.part_from-left.ensures (c.node_size-a_size.ensures.size _ _) (kind_is x h c.in-Preimage.is) c.fill_preimage.ensures
+    preimage_done (filled x h) c.map_entries-in-Preimage.ensures c.part_from-left.ensures c.entry_or-a_size.ensures (kind_is x h c.in-Preimage.is) c.fill_preimage.ensures
 
 pub returns-in-Unknown : goal.returns-in-Unknown
 returns-in-Unknown c P d h =
     let x = (goal.at.returns-in-Unknown c).After-part_from-left in
-    absurd (known_kind P (data_of d) h.sources.facts _ (node_listed h) (kind_is x h c.in-Unknown.is))
+    absurd (known_kind P (data_of d) h.facts _ (node_listed h) (kind_is x h c.in-Unknown.is))

@@ -9,7 +9,7 @@ use Rattle.model.specs.Layout.{Plan}
 use Rattle.model.specs.DataSets.{data_of}
 use Rattle.model.proofs.Fitting.{fit}
 use Rattle.subregions.specs.Fill.{node_filled, filled_up_to, span_filled, FillSources}
-use Rattle.subregions.proofs.AllNodes.{node_sources, passed_length, node_next, node_skipped}
+use Rattle.subregions.proofs.AllNodes.{node_sources, size_sources, passed_length, node_next, node_skipped}
 use Rattle.subregions.proofs.fill.fill_nodes.Goals as goal
 use Rattle.subregions.proofs.fill.fill_nodes.Goals.{Joined-has_bit, then-has_bit, else-has_bit}
 
@@ -22,7 +22,7 @@ next c P d S =
     let t = c.loop-j-test.true in
     elim c.if-has_bit.branch [
       | then-has_bit w ↦
-          w.words-is ∙ w.fill_node.ensures P d (node_sources S l.invariant.0 t)
+          w.words-is ∙ w.fill_node.ensures P d (node_sources S (c.node_sizes-node_sizes.ensures P d (size_sources S)) l.invariant.0 t)
           ∙ ap (λ (list : List ℕ). node_filled P (data_of d) c.args.span list l.j) (l.invariant.1 P d S)
           ∙ node_next P (data_of d) S.facts (fit P d S.fits) _ _ S.span_fits l.j t (sym c.has_bit.ensures ∙ w.if-has_bit.true)
       | else-has_bit w ↦
