@@ -13,8 +13,9 @@ use model::NodeKind;
 use primitives::lookup::entry_or;
 use primitives::records::{node_kind, node_operands};
 
-// Fills node j from its operands' words. The sizes come as a table, with which regions and sizes need not be at hand. Each of the three operators on two sets has a loop of its own, so that the
-// compiler combines a piece's words two at a time without a test.
+// Fills node j from its operands' words. The sizes of the nodes' regions come as a table: whoever has that needs no regions.
+// Each of the three operators on two sets has a loop of its own, so that the compiler combines a piece's words two at a time
+// without a test.
 pub fn fill_node(words: &mut [u64], sources: &Sources, node_sizes: &[usize], span: Span, j: usize)
     requires { NodeReady sources.now node_sizes.now span (length words.old) j }
     ensures { (P : Plan) (d : Bytes) → NodeSources P d sources.now node_sizes.now span (length words.old) j → words.new ≡ node_filled P (data_of d) span words.old j }
